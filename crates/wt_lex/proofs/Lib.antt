@@ -1,0 +1,4 @@
+pub mod Cutting
+pub mod Lexing
+pub mod Numbers
+pub mod Storing

@@ -1,0 +1,36 @@
+use Rattle.std.proofs.Common.{◌≡◌, ◌∙◌, sym, ap, arith, length, length-drop, drop, [], append-nil, Ok, Err, false}
+use Rattle.wt_lex.specs.Fronts as spec
+use Rattle.wt_lex.specs.Stored.{shown_all}
+use Rattle.wt_lex.specs.Tokens as tokens
+use Rattle.wt_lex.proofs.Cutting.{cut_next, cut_open, gives_err, tokens_none}
+use Rattle.wt_lex.proofs.tokens.cut.Goals as goal
+
+pub returns-in_err-at : goal.returns-in_err-at
+returns-in_err-at c = record {
+  exact =
+      gives_err (λ v. v) c.from_residual.result c.in_err-at.field-0.0 (λ place. (tokens.is_closed (spec.front c.split_at.result.1.now) ≡ false) × (place ≡ c.fronts.at)) _
+      c.from_residual.ensures.1
+      c.in_err-at.ensures.err
+      (λ place h. sym c.fronts.invariant.exact ∙ cut_open (shown_all c.fronts.great.items c.fronts.stored.items) c.fronts.at c.args.bytes.now c.split_at.result.1.now c.split_at.ensures.back c.fronts-test.true h.0 ∙ ap Err (sym h.1));
+}
+
+pub fronts-preserved : goal.fronts-preserved
+fronts-preserved c =
+    let ok = c.in_ok-at.ensures.ok in
+    let len = c.split_at.ensures.back_len in
+    record {
+      exact = cut_next (shown_all c.fronts.great.items c.fronts.stored.items) (shown_all c.step.new.great.items c.step.new.stored.items) c.fronts.at c.in_ok-at.field-0 c.args.bytes.now c.split_at.result.1.now c.split_at.ensures.back c.fronts-test.true ok.0 ok.4 ok.1 ok.2
+          ∙ c.fronts.invariant.exact;
+      fit = ok.3;
+      few = ok.6;
+      within = omega arith;
+    }
+
+pub returns : goal.returns
+returns c = record {
+  exact =
+      ap tokens.open_quote
+      (sym c.fronts.invariant.exact
+      ∙ ap (tokens.before (shown_all c.fronts.great.items c.fronts.stored.items)) (tokens_none c.fronts.at (drop c.fronts.at c.args.bytes.now) (omega (arith, length-drop c.fronts.at c.args.bytes.now)))
+      ∙ ap Ok (append-nil (shown_all c.fronts.great.items c.fronts.stored.items)));
+}

@@ -1,3 +1,4 @@
 pub mod Fronts
+pub mod Names
 pub mod Stored
 pub mod Tokens

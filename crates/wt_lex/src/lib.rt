@@ -2,8 +2,10 @@
 #![tactic(auto)]
 
 mod front;
+mod names;
 mod token;
 mod tokens;
 
+pub use names::{is_reserved, is_word, name_of, text_of};
 pub use token::{LexError, LexFault, Sym, Token, TokenKind};
 pub use tokens::{Tokens, lex};

@@ -1,0 +1,161 @@
+ghost use Rattle.std.specs.Prelude.{◌≡◌, ◌-◌, ◌++◌, take, drop, map, false, IfOk};
+ghost use Rattle.std.specs.List.{list_any};
+ghost use Rattle.std.specs.Str.{bytes_eq};
+ghost use Rattle.wt_lex.specs.Names as spec;
+
+use crate::token::{Token, TokenKind};
+use std::alloc::Global;
+use wt_value::{Name, Text, WantOfMemory};
+
+static RESERVED: [&[u8]; 51] = [
+    b"all",
+    b"and",
+    b"as",
+    b"between",
+    b"case",
+    b"cast",
+    b"check",
+    b"constraint",
+    b"create",
+    b"cross",
+    b"default",
+    b"distinct",
+    b"except",
+    b"exists",
+    b"false",
+    b"fetch",
+    b"foreign",
+    b"from",
+    b"full",
+    b"group",
+    b"having",
+    b"ilike",
+    b"in",
+    b"inner",
+    b"intersect",
+    b"is",
+    b"join",
+    b"left",
+    b"like",
+    b"limit",
+    b"natural",
+    b"not",
+    b"null",
+    b"offset",
+    b"on",
+    b"or",
+    b"order",
+    b"outer",
+    b"primary",
+    b"references",
+    b"right",
+    b"select",
+    b"similar",
+    b"table",
+    b"true",
+    b"union",
+    b"unique",
+    b"using",
+    b"where",
+    b"window",
+    b"with",
+];
+
+/// Whether a word, given in lower case, is reserved: such a word is a name only in quotes.
+pub fn is_reserved(word: &[u8]) -> bool
+    ensures { result ≡ spec.is_reserved word.now }
+{
+    is_among(word, &RESERVED)
+}
+
+fn is_among(word: &[u8], words: &[&[u8]]) -> bool
+    ensures { result ≡ list_any (λ other. bytes_eq other.now word.now) words.now }
+{
+    words.iter().any(|other| *other == word)
+}
+
+/// The name that a token stands for: a Word folded to lower case, a Quoted without its quotes, each doubled quote inside
+/// being one. A token of another kind stands for the empty name.
+pub fn name_of(alloc: Global, bytes: &[u8], token: &Token) -> Result<Name, WantOfMemory>
+    ensures { IfOk result (λ name. name ≡ spec.name_bytes bytes.now token.now) }
+{
+    let token = *token;
+    match token.kind {
+        TokenKind::Word => Name::from_bytes(alloc, &folded(alloc, spelled(bytes, token))?),
+        TokenKind::Quoted => Name::from_bytes(alloc, &undoubled(alloc, b'"', inside(bytes, token))?),
+        _ => Name::from_bytes(alloc, &[]),
+    }
+}
+
+/// The content of a Text token, without its quotes, each doubled quote inside being one. A token of another kind has the
+/// empty text.
+pub fn text_of(alloc: Global, bytes: &[u8], token: &Token) -> Result<Text, WantOfMemory>
+    ensures { IfOk result (λ text. text ≡ spec.text_bytes bytes.now token.now) }
+{
+    let token = *token;
+    match token.kind {
+        TokenKind::Text => Text::from_bytes(alloc, &undoubled(alloc, b'\'', inside(bytes, token))?),
+        _ => Text::from_bytes(alloc, &[]),
+    }
+}
+
+/// Whether a token is this word, whatever the case of its letters.
+pub fn is_word(bytes: &[u8], token: &Token, word: &[u8]) -> bool
+    ensures { result ≡ spec.is_word bytes.now token.now word.now }
+{
+    let token = *token;
+    match token.kind {
+        TokenKind::Word => is_folded(spelled(bytes, token), word),
+        _ => false,
+    }
+}
+
+fn is_folded(spelled: &[u8], word: &[u8]) -> bool
+    ensures { result ≡ spec.is_folded spelled.now word.now }
+{
+    spelled.eq_ignore_ascii_case(word)
+}
+
+fn spelled(bytes: &[u8], token: Token) -> &[u8]
+    ensures { result.now ≡ spec.spelled bytes.now token }
+{
+    piece(bytes, token.start as usize, token.end as usize)
+}
+
+fn inside(bytes: &[u8], token: Token) -> &[u8]
+    ensures { result.now ≡ spec.inside bytes.now token }
+{
+    piece(bytes, token.start as usize + 1, (token.end as usize).saturating_sub(1))
+}
+
+// The bytes from a place to before another, as far as there are some.
+fn piece(bytes: &[u8], from: usize, to: usize) -> &[u8]
+    ensures { result.now ≡ spec.piece bytes.now from to }
+{
+    let (_, rest) = bytes.split_at(from.min(bytes.len()));
+    let (front, _) = rest.split_at(to.saturating_sub(from).min(rest.len()));
+    front
+}
+
+fn folded(alloc: Global, word: &[u8]) -> Result<Vec<u8>, WantOfMemory>
+    ensures { IfOk result (λ v. v.items ≡ spec.folded word.now) }
+{
+    word.iter().map(|byte| byte.to_ascii_lowercase()).collect(alloc)
+}
+
+fn undoubled(alloc: Global, quote: u8, mut text: &[u8]) -> Result<Vec<u8>, WantOfMemory>
+    ensures { IfOk result (λ v. v.items ≡ spec.undoubled quote false text.entry.now) }
+{
+    let mut out = Vec::new(alloc);
+    let mut second = false;
+    'bytes: while let [byte, rest @ ..] = text {
+        if second {
+            second = false;
+        } else {
+            out.push(*byte)?;
+            second = *byte == quote;
+        }
+        text = rest;
+    }
+    Ok(out)
+}

@@ -3,6 +3,8 @@
 
 mod front;
 mod names;
+#[cfg(test)]
+mod tests;
 mod token;
 mod tokens;
 

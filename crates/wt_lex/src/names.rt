@@ -82,7 +82,10 @@ pub fn name_of(alloc: Global, bytes: &[u8], token: &Token) -> Result<Name, WantO
     let token = *token;
     match token.kind {
         TokenKind::Word => Name::from_bytes(alloc, &folded(alloc, spelled(bytes, token))?),
-        TokenKind::Quoted => Name::from_bytes(alloc, &undoubled(alloc, b'"', inside(bytes, token))?),
+        TokenKind::Quoted => Name::from_bytes(
+            alloc,
+            &undoubled(alloc, b'"', inside(bytes, token))?,
+        ),
         _ => Name::from_bytes(alloc, &[]),
     }
 }
@@ -125,7 +128,11 @@ fn spelled(bytes: &[u8], token: Token) -> &[u8]
 fn inside(bytes: &[u8], token: Token) -> &[u8]
     ensures { result.now ≡ spec.inside bytes.now token }
 {
-    piece(bytes, token.start as usize + 1, (token.end as usize).saturating_sub(1))
+    piece(
+        bytes,
+        token.start as usize + 1,
+        (token.end as usize).saturating_sub(1),
+    )
 }
 
 // The bytes from a place to before another, as far as there are some.
@@ -140,7 +147,9 @@ fn piece(bytes: &[u8], from: usize, to: usize) -> &[u8]
 fn folded(alloc: Global, word: &[u8]) -> Result<Vec<u8>, WantOfMemory>
     ensures { IfOk result (λ v. v.items ≡ spec.folded word.now) }
 {
-    word.iter().map(|byte| byte.to_ascii_lowercase()).collect(alloc)
+    word.iter()
+        .map(|byte| byte.to_ascii_lowercase())
+        .collect(alloc)
 }
 
 fn undoubled(alloc: Global, quote: u8, mut text: &[u8]) -> Result<Vec<u8>, WantOfMemory>

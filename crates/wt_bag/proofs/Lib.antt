@@ -1,5 +1,6 @@
 pub mod TotalLaws
 pub mod EachLaws
+pub mod HasLaws
 pub mod ChoiceLaws
 pub mod BagLaws
 pub mod Counting

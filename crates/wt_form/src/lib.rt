@@ -1,0 +1,38 @@
+//! Forms of plans: sums of products of relations under conditions, in which two plans are compared.
+//!
+//! A form is a multiplicity for each row, as in U-semirings (Chu, Murphy, Roesch, Cheung, Suciu:
+//! Axiomatic Foundations and Algorithms for Deciding Semantic Equivalences of SQL Queries, 2018).
+//! The definitions of forms, of steps between them and of congruent forms stand in `specs/`.
+#![tactic(auto)]
+
+ghost use Rattle.wt_form.specs.Trees.{Form};
+ghost use Rattle.wt_form.specs.Known.{Known};
+ghost use Rattle.wt_form.specs.Provable.{Chain};
+ghost use Rattle.std.specs.Prelude.{ℕ};
+
+/// The columns of a part: all of its leaf, or those of a list symbol.
+#[derive(Clone, Copy, Debug, PartialEq, Eq)]
+pub enum PartCols {
+    Whole,
+    List(u8),
+}
+
+/// A part of a row: a leaf, and columns of it.
+#[derive(Clone, Copy, Debug, PartialEq, Eq)]
+pub struct Part {
+    pub leaf: u8,
+    pub cols: PartCols,
+}
+
+/// Values under a choice of the variables: columns of a part of a variable, or NULL for each column
+/// of a leaf or a list.
+#[derive(Clone, Copy, Debug, PartialEq, Eq)]
+pub enum Expr {
+    Of(u32, u32, PartCols),
+    Null(u8, PartCols),
+}
+
+/// A law: a chain of no steps is there from each form to itself, under any bound.
+pub fn no_step_is_a_chain()
+    ensures { (known : Known) (steps : ℕ) (form : Form) → Chain known steps form form }
+{}

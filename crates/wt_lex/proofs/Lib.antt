@@ -1,4 +1,6 @@
 pub mod Cutting
 pub mod Lexing
+pub mod Naming
 pub mod Numbers
+pub mod Standing
 pub mod Storing

@@ -1,4 +1,4 @@
-use Rattle.std.proofs.Common.{◌≡◌, ℕ, suc, zero, ◌+◌, ◌-◌, ◌*◌, ◌<◌, List, [], ◌∷◌, ◌++◌, length, get_or, take, refl, ap, ◌∙◌, arith, add-one}
+use Rattle.std.proofs.Common.{◌≡◌, ℕ, suc, zero, ◌+◌, ◌-◌, ◌*◌, ◌<◌, List, [], ◌∷◌, length, get_or, take, refl, arith, add-one}
 use Rattle.wt_lex.specs.Fronts.{value, value_more}
 
 more_next : (n : ℕ) (ds : List ℕ) (i : ℕ) → i < length ds → value_more n (take (suc i) ds) ≡ 10 * value_more n (take i ds) + (get_or ds i 0 - 48)

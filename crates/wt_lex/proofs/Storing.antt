@@ -1,12 +1,11 @@
 -- What the compact form of tokens shows, at a place, behind one more and over a longer table.
-use Rattle.std.proofs.Common.{◌≡◌, ℕ, zero, suc, ◌+◌, ◌<◌, ◌≤◌, List, [], ◌∷◌, ◌++◌, length, get_or, refl, ap, sym, ◌∙◌, arith, length-append, Some}
+use Rattle.std.proofs.Common.{◌≡◌, ℕ, zero, suc, ◌+◌, ◌<◌, ◌≤◌, List, [], ◌∷◌, ◌++◌, length, get_or, refl, ap, ◌∙◌, arith, length-append, Some}
 use Rattle.std.specs.Prelude.{slice_get}
 use Rattle.std.proofs.lemmas.List.{get_or_append_left}
 use Rattle.wt_lex.specs.declared.tokens.Stored.{Stored}
 use Rattle.wt_lex.specs.declared.tokens.StoredKind.{StoredKind}
 use Rattle.wt_lex.specs.declared.tokens.StoredKind.TheVariants as stored
 use Rattle.wt_lex.specs.declared.token.Token.{Token}
-use Rattle.wt_lex.specs.declared.token.TokenKind.{TokenKind}
 use Rattle.wt_lex.specs.declared.token.TokenKind.TheVariants.{Number}
 use Rattle.wt_lex.specs.Stored.{shown, shown_all, shown_kind, Fits, AllFit, HasNumber, KeepsKind}
 

@@ -1,4 +1,5 @@
 pub mod Fronts
 pub mod Names
+pub mod Sound
 pub mod Stored
 pub mod Tokens

@@ -1,8 +1,8 @@
 -- What words, quoted names and texts stand for.
-use Rattle.std.specs.Prelude.{ℕ, ◌+◌, ◌-◌, Bool, true, false, ◌==◌, List, [], ◌∷◌, map, take, drop, codes}
+use Rattle.std.specs.Prelude.{ℕ, ◌<◌, ◌+◌, ◌-◌, Bool, true, false, if◌then◌else◌, ◌==◌, List, [], ◌∷◌, map, length, take, drop, codes}
 use Rattle.std.specs.Char.{to_ascii_lowercase}
 use Rattle.std.specs.List.{list_any}
-use Rattle.std.specs.Str.{bytes_eq}
+use Rattle.std.specs.Str.{bytes_eq, IsUtf8}
 use Rattle.wt_lex.specs.declared.token.TokenKind.{TokenKind}
 use Rattle.wt_lex.specs.declared.token.TokenKind.TheVariants as kinds
 use Rattle.wt_lex.specs.declared.token.Token.{Token}
@@ -37,10 +37,10 @@ inside bytes t = piece bytes (t.start + 1) (t.end - 1)
 abbrev pub folded : List ℕ → List ℕ
 folded word = map to_ascii_lowercase word
 
--- Each doubled quote once. `second` says that the byte before was the first quote of a pair.
+-- Each doubled quote once. `second` says that the byte before was a quote, so that another one is the second of a pair.
 abbrev pub undoubled : ℕ → Bool → List ℕ → List ℕ
 undoubled quote second [] = []
-undoubled quote true (b ∷ z) = undoubled quote false z
+undoubled quote true (b ∷ z) = if b == quote then undoubled quote false z else b ∷ undoubled quote false z
 undoubled quote false (b ∷ z) = b ∷ undoubled quote (b == quote) z
 
 abbrev pub name_by : TokenKind → List ℕ → List ℕ → List ℕ
@@ -71,3 +71,13 @@ word_by _ spelling word = false
 -- the token is this word, whatever the case of its letters
 abbrev pub is_word : List ℕ → Token → List ℕ → Bool
 is_word bytes t word = word_by t.kind (spelled bytes t) word
+
+-- a name is UTF-8 and not empty
+abbrev pub IsName : List ℕ → Type 0
+IsName name = IsUtf8 name × (0 < length name)
+
+-- the kinds of tokens that stand for names
+abbrev pub IsNamed : TokenKind → Type 0
+IsNamed kinds.Word = Unit {0}
+IsNamed kinds.Quoted = Unit {0}
+IsNamed _ = ⊥

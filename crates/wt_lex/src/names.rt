@@ -158,7 +158,7 @@ fn undoubled(alloc: Global, quote: u8, mut text: &[u8]) -> Result<Vec<u8>, WantO
     let mut out = Vec::new(alloc);
     let mut second = false;
     'bytes: while let [byte, rest @ ..] = text {
-        if second {
+        if second && *byte == quote {
             second = false;
         } else {
             out.push(*byte)?;

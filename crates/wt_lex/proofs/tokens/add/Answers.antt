@@ -1,4 +1,4 @@
-use Rattle.std.proofs.Common.{refl, arith}
+use Rattle.std.proofs.Common.{refl}
 use Rattle.wt_lex.proofs.Storing.{added}
 use Rattle.wt_lex.proofs.tokens.add.Goals as goal
 

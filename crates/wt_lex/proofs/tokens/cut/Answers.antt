@@ -1,4 +1,4 @@
-use Rattle.std.proofs.Common.{◌≡◌, ◌∙◌, sym, ap, arith, length, length-drop, drop, [], append-nil, Ok, Err, false}
+use Rattle.std.proofs.Common.{◌≡◌, ◌∙◌, sym, ap, arith, length-drop, drop, append-nil, Ok, Err, false}
 use Rattle.wt_lex.specs.Fronts as spec
 use Rattle.wt_lex.specs.Stored.{shown_all}
 use Rattle.wt_lex.specs.Tokens as tokens

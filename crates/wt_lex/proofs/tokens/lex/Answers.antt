@@ -1,7 +1,4 @@
-use Rattle.std.proofs.Common.{◌∙◌, sym, ap, subst, length, arith, List, ℕ, Result, ◌≡◌}
-use Rattle.wt_lex.specs.declared.token.LexFault.{LexFault}
-use Rattle.wt_lex.specs.declared.token.Token.{Token}
-use Rattle.wt_lex.specs.Tokens.{Gives}
+use Rattle.std.proofs.Common.{◌∙◌}
 use Rattle.wt_lex.proofs.Lexing.{lexed_long, lexed_not_text, lexed_text}
 use Rattle.wt_lex.proofs.tokens.lex.Goals as goal
 

@@ -1,4 +1,4 @@
-use Rattle.std.proofs.Common.{◌≡◌, ◌<◌, ◌∙◌, sym, ap, length, arith, Some, slice_index_or}
+use Rattle.std.proofs.Common.{◌<◌, ◌∙◌, sym, ap, length, arith, Some}
 use Rattle.std.specs.Prelude.{slice_get}
 use Rattle.wt_lex.specs.Stored as stores
 use Rattle.wt_lex.proofs.Storing.{length-shown_all, slice_get-shown_all, fits_at}

@@ -1,0 +1,29 @@
+-- Where the tokens of a text stand in it.
+use Rattle.std.specs.Prelude.{◌≡◌, ℕ, ◌+◌, ◌-◌, ◌<◌, ◌≤◌, List, length, slice_index}
+use Rattle.std.specs.List.{AllByRecursion}
+use Rattle.std.specs.Str.{IsAscii}
+use Rattle.wt_lex.specs.declared.token.TokenKind.{TokenKind}
+use Rattle.wt_lex.specs.declared.token.TokenKind.TheVariants as kinds
+use Rattle.wt_lex.specs.declared.token.Token.{Token}
+use Rattle.wt_lex.specs.Names.{spelled}
+
+-- a quoted token has its quotes at its ends, and at least so many bytes
+abbrev pub IsBetween : ℕ → ℕ → List ℕ → Token → Type 0
+IsBetween quote least bytes t =
+    (t.start + least ≤ t.end) × (t.end ≤ length bytes) × (slice_index bytes t.start ≡ quote) × (slice_index bytes (t.end - 1) ≡ quote)
+
+-- a word is not empty and ASCII
+abbrev pub IsAsciiWord : List ℕ → Token → Type 0
+IsAsciiWord bytes t = (t.start < t.end) × (t.end ≤ length bytes) × IsAscii (spelled bytes t)
+
+abbrev pub StandsBy : TokenKind → List ℕ → Token → Type 0
+StandsBy kinds.Word bytes t = IsAsciiWord bytes t
+StandsBy kinds.Quoted bytes t = IsBetween 34 3 bytes t
+StandsBy kinds.Text bytes t = IsBetween 39 2 bytes t
+StandsBy _ bytes t = Unit {0}
+
+abbrev pub StandsIn : List ℕ → Token → Type 0
+StandsIn bytes t = StandsBy t.kind bytes t
+
+abbrev pub AllStandIn : List ℕ → List Token → Type 0
+AllStandIn bytes = AllByRecursion (StandsIn bytes)

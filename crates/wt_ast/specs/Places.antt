@@ -7,6 +7,7 @@ abbrev mutual
   pub conjunct_count : CondTree → ℕ
   conjunct_count (all_of at parts) = conjunct_sum parts
   conjunct_count _ = 1
+
   pub conjunct_sum : CondTrees → ℕ
   conjunct_sum no_conds = 0
   conjunct_sum (cond_then c rest) = conjunct_count c + conjunct_sum rest
@@ -16,20 +17,24 @@ abbrev mutual
 abbrev mutual
   pub item_places : QueryTree → List ℕ
   item_places (select distinct items from filter) = items_of_from from ++ items_of_filter filter
+
   pub items_of_filter : FilterTree → List ℕ
   items_of_filter no_filter = []
   items_of_filter (filter_by c) = items_of_cond c
+
   pub items_of_from : FromTree → List ℕ
   items_of_from (table name alias at alias_at) = at ∷ []
   items_of_from (derived query alias columns at alias_at) = at ∷ item_places query
   items_of_from (inner_join left right on on_at) = items_of_from left ++ (items_of_from right ++ items_of_cond on)
   items_of_from (left_join left right on on_at) = items_of_from left ++ (items_of_from right ++ items_of_cond on)
+
   pub items_of_cond : CondTree → List ℕ
   items_of_cond (in_query at columns query word_at) = item_places query
   items_of_cond (all_of at parts) = items_of_conds parts
   items_of_cond (any_of at parts) = items_of_conds parts
   items_of_cond (negated at c) = items_of_cond c
   items_of_cond _ = []
+
   pub items_of_conds : CondTrees → List ℕ
   items_of_conds no_conds = []
   items_of_conds (cond_then c rest) = items_of_cond c ++ items_of_conds rest
@@ -40,14 +45,17 @@ abbrev mutual
 abbrev mutual
   pub conjunct_places : QueryTree → List ℕ
   conjunct_places (select distinct items from filter) = conjuncts_of_from from ++ conjuncts_of_filter filter
+
   pub conjuncts_of_filter : FilterTree → List ℕ
   conjuncts_of_filter no_filter = []
   conjuncts_of_filter (filter_by c) = conjuncts_of_cond c
+
   pub conjuncts_of_from : FromTree → List ℕ
   conjuncts_of_from (table name alias at alias_at) = []
   conjuncts_of_from (derived query alias columns at alias_at) = conjunct_places query
   conjuncts_of_from (inner_join left right on on_at) = conjuncts_of_from left ++ (conjuncts_of_from right ++ conjuncts_of_cond on)
   conjuncts_of_from (left_join left right on on_at) = conjuncts_of_from left ++ (conjuncts_of_from right ++ conjuncts_of_cond on)
+
   pub conjuncts_of_cond : CondTree → List ℕ
   conjuncts_of_cond (compare at cmp a b word_at) = at ∷ []
   conjuncts_of_cond (is_null at column) = at ∷ []
@@ -57,6 +65,7 @@ abbrev mutual
   conjuncts_of_cond (all_of at parts) = conjuncts_of_conds parts
   conjuncts_of_cond (any_of at parts) = at ∷ []
   conjuncts_of_cond (negated at c) = at ∷ []
+
   pub conjuncts_of_conds : CondTrees → List ℕ
   conjuncts_of_conds no_conds = []
   conjuncts_of_conds (cond_then c rest) = conjuncts_of_cond c ++ conjuncts_of_conds rest
@@ -66,14 +75,17 @@ abbrev mutual
 abbrev mutual
   pub misplaced : QueryTree → List ℕ
   misplaced (select distinct items from filter) = misplaced_in_from from ++ misplaced_in_filter filter
+
   pub misplaced_in_filter : FilterTree → List ℕ
   misplaced_in_filter no_filter = []
   misplaced_in_filter (filter_by c) = misplaced_in_cond false c
+
   pub misplaced_in_from : FromTree → List ℕ
   misplaced_in_from (table name alias at alias_at) = []
   misplaced_in_from (derived query alias columns at alias_at) = misplaced query
   misplaced_in_from (inner_join left right on on_at) = misplaced_in_from left ++ (misplaced_in_from right ++ misplaced_in_cond false on)
   misplaced_in_from (left_join left right on on_at) = misplaced_in_from left ++ (misplaced_in_from right ++ misplaced_in_cond false on)
+
   pub misplaced_in_cond : Bool → CondTree → List ℕ
   misplaced_in_cond true (in_query at columns query word_at) = word_at ∷ misplaced query
   misplaced_in_cond false (in_query at columns query word_at) = misplaced query
@@ -81,6 +93,7 @@ abbrev mutual
   misplaced_in_cond below (any_of at parts) = misplaced_in_conds true parts
   misplaced_in_cond below (negated at c) = misplaced_in_cond true c
   misplaced_in_cond below _ = []
+
   pub misplaced_in_conds : Bool → CondTrees → List ℕ
   misplaced_in_conds below no_conds = []
   misplaced_in_conds below (cond_then c rest) = misplaced_in_cond below c ++ misplaced_in_conds below rest

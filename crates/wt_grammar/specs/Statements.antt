@@ -7,7 +7,8 @@ use Rattle.wt_lex.specs.declared.token.LexFault.{LexFault}
 use Rattle.wt_lex.specs.declared.token.Sym.TheVariants as sym
 use Rattle.wt_lex.specs.Tokens.{lexed}
 use Rattle.wt_ast.specs.Tree.{QueryTree}
-use Rattle.wt_ast.specs.Places.{item_places, conjunct_places, misplaced}
+use Rattle.wt_ast.specs.declared.places.Counted.TheVariants.{FromItems, Conjuncts}
+use Rattle.wt_ast.specs.Places.{places, misplaced, first}
 use Rattle.wt_grammar.specs.declared.fault.QueryFault.TheVariants as fault
 use Rattle.wt_grammar.specs.Words.{lexeme}
 use Rattle.wt_grammar.specs.Reading.{Refusal, refused, odd, Read, statement}
@@ -80,19 +81,19 @@ earlier (Some a) (Some b) = Some (min a b)
 
 -- where the 257th FROM item or the 257th conjunct stands, the first of the two
 abbrev pub crowded : QueryTree → Option ℕ
-crowded q = earlier (slice_get (item_places q) 256) (slice_get (conjunct_places q) 256)
+crowded q = earlier (slice_get (places FromItems q) 256) (slice_get (places Conjuncts q) 256)
 
 abbrev pub counted : Option ℕ → QueryTree → Answer
 counted None q = Ok q
 counted (Some at) q = Err (refused fault.TooMany, at)
 
-abbrev pub placed : List ℕ → QueryTree → Answer
-placed [] q = counted (crowded q) q
-placed (at ∷ others) q = Err (refused fault.InUnderOr, at)
+abbrev pub placed : Option ℕ → QueryTree → Answer
+placed None q = counted (crowded q) q
+placed (Some at) q = Err (refused fault.InUnderOr, at)
 
 -- a query that was read, unless a query in it stands below Or or Not, or it has too many parts
 abbrev pub limited : Read QueryTree → Answer
-limited (Ok x) = placed (misplaced x.0) x.0
+limited (Ok x) = placed (first (misplaced x.0)) x.0
 limited (Err e) = Err e
 
 abbrev pub lexical_or : Option (LexFault × ℕ) → Answer → Answer

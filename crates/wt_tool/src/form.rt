@@ -43,15 +43,20 @@ fn is_bare(name: &Name) -> bool
     }
 }
 
-fn has_column(table: &Table, name: &Name) -> bool
-    ensures { result ≡ is_some (spec.column_place table.now name.now) }
+fn column_place(table: &Table, name: &Name) -> Option<usize>
+    ensures { result ≡ spec.column_place table.now name.now }
 {
     table
         .columns
         .as_slice()
         .iter()
         .position(|column| name.as_bytes() == column.name.as_bytes())
-        .is_some()
+}
+
+fn has_column(table: &Table, name: &Name) -> bool
+    ensures { result ≡ is_some (spec.column_place table.now name.now) }
+{
+    column_place(table, name).is_some()
 }
 
 fn is_qualifier(table: &Option<Name>, name: &Name) -> bool

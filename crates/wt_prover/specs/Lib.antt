@@ -1,0 +1,3 @@
+pub mod Sames
+pub mod Towers
+pub mod TowerSteps

@@ -5,7 +5,7 @@ use Rattle.std.specs.List.{list_any}
 use Rattle.wt_bag.specs.Choices.{Has}
 use Rattle.wt_bag.proofs.HasLaws.{has_left, has_right, has_split, has_flat_map, has_from_flat_map, list_any_has, has_list_any}
 use Rattle.wt_bag.proofs.PairsByLaws.{IsEquivalent}
-use Rattle.wt_form.specs.declared.Part.{Part}
+use Rattle.wt_symbol.specs.declared.head.Part.{Part}
 use Rattle.wt_form.specs.Trees.{Terms, Form}
 use Rattle.wt_form.specs.Known.{Known}
 use Rattle.wt_form.specs.Congruent.{TermsSame}

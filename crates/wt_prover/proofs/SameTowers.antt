@@ -3,7 +3,7 @@ use Rattle.std.proofs.Common.{ℕ, zero, suc, ◌≡◌, ◌<◌, true, List, []
 use Rattle.std.proofs.lemmas.Bool.{false≢true, and_parts, and_from}
 use Rattle.wt_bag.specs.Choices.{At, drop_at, PairsBy}
 use Rattle.wt_bag.proofs.PairsByLaws.{IsEquivalent, both_alike_pairs}
-use Rattle.wt_form.specs.declared.PartCols.TheVariants.{Whole}
+use Rattle.wt_symbol.specs.declared.head.PartCols.TheVariants.{Whole}
 use Rattle.wt_form.specs.declared.Expr.TheVariants.{Of}
 use Rattle.wt_form.specs.Trees.{Terms, no_ranges, range_then, FormRange, Rel, distinct_of}
 use Rattle.wt_form.specs.Parts.{one_term, conds_list, ranges_list, terms_count, ranges_at, conds_at}

@@ -3,8 +3,8 @@ use Rattle.std.proofs.Common.{ℕ, zero, suc, ◌≡◌, ◌<◌, ◌+◌, Bool,
 use Rattle.std.proofs.lemmas.Bool.{false≢true}
 use Rattle.wt_bag.specs.Choices.{At, Has}
 use Rattle.wt_bag.proofs.HasLaws.{has_left, has_right, has_split, has_map, has_from_map}
-use Rattle.wt_form.specs.declared.Part.{Part}
-use Rattle.wt_form.specs.declared.PartCols.TheVariants.{Whole, List as Listed}
+use Rattle.wt_symbol.specs.declared.head.Part.{Part}
+use Rattle.wt_symbol.specs.declared.head.PartCols.TheVariants.{Whole, List as Listed}
 use Rattle.wt_form.specs.declared.Expr.{Expr}
 use Rattle.wt_form.specs.declared.Expr.TheVariants.{Of}
 use Rattle.wt_form.specs.Trees.{Terms, no_terms, term_then, Ranges, no_ranges, range_then, FormRange, Rel, distinct_of, Conds, no_conds, cond_then, Cond, Pred, Join, is_in, not_in}

@@ -5,3 +5,4 @@ pub mod SameTowers
 pub mod DropLaws
 pub mod StepTowers
 pub mod Proves
+pub mod SideForms

@@ -19,14 +19,17 @@ use Rattle.wt_ast.specs.declared.tree.Conditions.TheVariants.{Empty, More'}
 mutual
   pub data QueryTree : Type 0 where
     select : Bool → List Item → FromTree → FilterTree → QueryTree
+
   pub data FilterTree : Type 0 where
     no_filter : FilterTree
     filter_by : CondTree → FilterTree
+
   pub data FromTree : Type 0 where
     table : List ℕ → Option (List ℕ) → ℕ → ℕ → FromTree
     derived : QueryTree → List ℕ → Option (List (List ℕ)) → ℕ → ℕ → FromTree
     inner_join : FromTree → FromTree → CondTree → ℕ → FromTree
     left_join : FromTree → FromTree → CondTree → ℕ → FromTree
+
   pub data CondTree : Type 0 where
     compare : ℕ → CmpWord → Scalar → Scalar → ℕ → CondTree
     is_null : ℕ → ColumnName → CondTree
@@ -36,6 +39,7 @@ mutual
     all_of : ℕ → CondTrees → CondTree
     any_of : ℕ → CondTrees → CondTree
     negated : ℕ → CondTree → CondTree
+
   pub data CondTrees : Type 0 where
     no_conds : CondTrees
     cond_then : CondTree → CondTrees → CondTrees
@@ -44,14 +48,17 @@ mutual
 abbrev mutual
   pub query_tree : Query → QueryTree
   query_tree (Query' distinct items from filter) = select distinct items (from_tree from) (held_tree filter)
+
   pub held_tree : Held-Query-filter → FilterTree
   held_tree None' = no_filter
   held_tree (Some' at kind) = filter_by (kind_tree at kind)
+
   pub from_tree : FromPart → FromTree
   from_tree (Table name alias at alias_at) = table name alias at alias_at
   from_tree (Derived' p query alias columns at alias_at) = derived (query_tree query) alias columns at alias_at
   from_tree (Inner' p left q right at kind on_at) = inner_join (from_tree left) (from_tree right) (kind_tree at kind) on_at
   from_tree (Left' p left q right at kind on_at) = left_join (from_tree left) (from_tree right) (kind_tree at kind) on_at
+
   pub kind_tree : ℕ → CondKind → CondTree
   kind_tree at (Compare cmp a b word_at) = compare at cmp a b word_at
   kind_tree at (IsNull column) = is_null at column
@@ -61,6 +68,7 @@ abbrev mutual
   kind_tree at (And parts) = all_of at (conditions_tree parts)
   kind_tree at (Or parts) = any_of at (conditions_tree parts)
   kind_tree at (Not' p inner_at inner) = negated at (kind_tree inner_at inner)
+
   pub conditions_tree : Conditions → CondTrees
   conditions_tree Empty = no_conds
   conditions_tree (More' p at kind q rest) = cond_then (kind_tree at kind) (conditions_tree rest)

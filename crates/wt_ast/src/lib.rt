@@ -2,8 +2,11 @@
 #![tactic(auto)]
 
 mod condition;
+mod misplaced;
+mod places;
 mod tree;
 
+pub use places::Counted;
 pub use tree::{
     CmpWord, ColumnName, ColumnNames, CondKind, Condition, Conditions, FromPart, Item, Items,
     Query, Scalar,

@@ -61,9 +61,9 @@ abbrev pub is_is : Kind → Bool
 is_is (Key word.Is) = true
 is_is _ = false
 
-abbrev pub is_null : Kind → Bool
-is_null (Key word.Null) = true
-is_null _ = false
+abbrev pub is_null_word : Kind → Bool
+is_null_word (Key word.Null) = true
+is_null_word _ = false
 
 abbrev pub is_in : Kind → Bool
 is_in (Key word.In) = true

@@ -77,19 +77,27 @@ no_end (Key word.Fetch) = fault.Limit
 no_end (Key word.Window) = fault.Window
 no_end _ = fault.Syntax
 
--- behind a FROM item or the condition of an ON; what it has no row for, `other` refuses
-abbrev pub no_join_or : (Kind → QueryFault) → Kind → QueryFault
-no_join_or other (Mark sym.Comma) = fault.CommaJoin
-no_join_or other (Key word.Right) = fault.RightJoin
-no_join_or other (Key word.Full) = fault.FullJoin
-no_join_or other (Key word.Cross) = fault.CrossJoin
-no_join_or other (Key word.Natural) = fault.NaturalJoin
-no_join_or other (Key word.Using) = fault.Using
-no_join_or other k = other k
+-- behind a FROM item or the condition of an ON
+abbrev pub join_fault : Kind → Option QueryFault
+join_fault (Mark sym.Comma) = Some fault.CommaJoin
+join_fault (Key word.Right) = Some fault.RightJoin
+join_fault (Key word.Full) = Some fault.FullJoin
+join_fault (Key word.Cross) = Some fault.CrossJoin
+join_fault (Key word.Natural) = Some fault.NaturalJoin
+join_fault (Key word.Using) = Some fault.Using
+join_fault _ = None
 
 abbrev pub syntax : Kind → QueryFault
 syntax k = fault.Syntax
 
--- behind a FROM item that still wants its ON, or where parentheses round a join close
+abbrev pub fault_or : Option QueryFault → QueryFault → QueryFault
+fault_or (Some f) other = f
+fault_or None other = other
+
+-- behind a FROM item that still wants its ON, and where parentheses round a join close
 abbrev pub no_join : Kind → QueryFault
-no_join = no_join_or syntax
+no_join k = fault_or (join_fault k) fault.Syntax
+
+-- where a query without WHERE may end, or its FROM go on
+abbrev pub no_join_or_end : Kind → QueryFault
+no_join_or_end k = fault_or (join_fault k) (no_end k)

@@ -81,3 +81,12 @@ pub enum JoinKind {
     Inner,
     Left,
 }
+
+/// Where the lookahead for a tuple stands: before a column, behind its first name, behind a dot, behind its second name.
+#[derive(Clone, Copy, Debug, PartialEq, Eq)]
+pub enum Stage {
+    BeforeColumn,
+    BehindName,
+    BehindDot,
+    BehindColumn,
+}

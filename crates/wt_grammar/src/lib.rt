@@ -6,4 +6,4 @@ mod fault;
 mod lexeme;
 
 pub use fault::QueryFault;
-pub use lexeme::{JoinKind, Kind, Lexeme, Word};
+pub use lexeme::{JoinKind, Kind, Lexeme, Stage, Word};

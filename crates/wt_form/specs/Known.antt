@@ -1,8 +1,8 @@
 -- What a set of constraints says of leaves, lists and predicates.
 use Rattle.std.specs.Prelude.{ℕ, Bool, true, false, ◌&&◌, List, [], ◌∷◌, nat_eq}
-use Rattle.wt_form.specs.declared.Part.{Part}
-use Rattle.wt_form.specs.declared.PartCols.{PartCols}
-use Rattle.wt_form.specs.declared.PartCols.TheVariants.{Whole, List as Listed}
+use Rattle.wt_symbol.specs.declared.head.Part.{Part}
+use Rattle.wt_symbol.specs.declared.head.PartCols.{PartCols}
+use Rattle.wt_symbol.specs.declared.head.PartCols.TheVariants.{Whole, List as Listed}
 
 -- which symbols it makes the same, and which facts hold under it
 pub record Known : Type 0 where

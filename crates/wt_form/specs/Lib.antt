@@ -5,3 +5,5 @@ pub mod Congruent
 pub mod Facts
 pub mod Steps
 pub mod Provable
+pub mod FormOf
+pub mod Weights

@@ -1,7 +1,7 @@
 -- Steps between forms: a table of what may stand in the place of one term, and where a term may be.
 use Rattle.std.specs.Prelude.{ℕ, zero, suc, ◌+◌, ◌<◌, ◌≡◌, ◌⊎◌, Bool, true, false, Option, Some, None, cond, nat_eq, nat_lt, List, [], ◌∷◌, map, ◌-◌}
-use Rattle.wt_form.specs.declared.Part.{Part}
-use Rattle.wt_form.specs.declared.PartCols.{PartCols}
+use Rattle.wt_symbol.specs.declared.head.Part.{Part}
+use Rattle.wt_symbol.specs.declared.head.PartCols.{PartCols}
 use Rattle.wt_form.specs.declared.Expr.{Expr}
 use Rattle.wt_form.specs.declared.Expr.TheVariants.{Of, Null as NullOf}
 use Rattle.wt_form.specs.Trees.{Terms, term_then, Ranges, no_ranges, range_then, FormRange, distinct_of, Conds, no_conds, cond_then, Cond, Pred, Join, is_in, not_in, Form}
@@ -16,13 +16,13 @@ itself no_ranges = []
 itself (range_then r rs) = 0 ∷ itself rs
 
 -- an expression on a part with columns `own`, cut down to columns c: there is one where c is `own`,
--- or where the expression has the columns `own`
+-- where the expression has the columns `own`, and where it is NULL
 abbrev pub take_cols : PartCols → PartCols → Expr → Option Expr
 take_cols own c e = cond (cols_eq c own) (Some e) (cut e)
   where
     cut : Expr → Option Expr
     cut (Of v i d) = cond (cols_eq d own) (Some (Of v i c)) None
-    cut (NullOf r d) = cond (cols_eq d own) (Some (NullOf r c)) None
+    cut (NullOf r d) = Some (NullOf r c)
 
 -- the columns c of part i of a row with this head and these pieces
 abbrev pub take_part : List Part → List Expr → ℕ → PartCols → Option Expr

@@ -10,19 +10,7 @@ ghost use Rattle.wt_form.specs.Known.{Known};
 ghost use Rattle.wt_form.specs.Provable.{Chain};
 ghost use Rattle.std.specs.Prelude.{ℕ};
 
-/// The columns of a part: all of its leaf, or those of a list symbol.
-#[derive(Clone, Copy, Debug, PartialEq, Eq)]
-pub enum PartCols {
-    Whole,
-    List(u8),
-}
-
-/// A part of a row: a leaf, and columns of it.
-#[derive(Clone, Copy, Debug, PartialEq, Eq)]
-pub struct Part {
-    pub leaf: u8,
-    pub cols: PartCols,
-}
+use wt_symbol::PartCols;
 
 /// Values under a choice of the variables: columns of a part of a variable, or NULL for each column
 /// of a leaf or a list.

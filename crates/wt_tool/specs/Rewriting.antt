@@ -1,7 +1,8 @@
 -- What `rewrite` answers.
-use Rattle.std.specs.Prelude.{ℕ, List, [], ◌∷◌, ◌++◌, Bool, true, false, if◌then◌else◌, codes, map, Some, None, Ok, Err, Result}
+use Rattle.std.specs.Prelude.{◌≡◌, ℕ, List, [], ◌∷◌, ◌++◌, Bool, true, false, if◌then◌else◌, codes, map, Some, None, Ok, Err, Result}
 use Rattle.std.specs.Fmt.{decimal}
 use Rattle.std.specs.List.{flat_map, list_any}
+use Rattle.std.specs.Io.KnownBytes.{append_known}
 use Rattle.std.specs.Str.{bytes_eq}
 use Rattle.std.specs.declared.option.Option.{Option}
 use Rattle.wt_ast.specs.Tree.{QueryTree}
@@ -16,7 +17,8 @@ use Rattle.wt_tool.specs.declared.input.Input.{Input}
 use Rattle.wt_tool.specs.declared.input.Input.TheVariants.{Whole, TooLong}
 use Rattle.wt_tool.specs.declared.line.Line.{Line}
 use Rattle.wt_tool.specs.FaultNames.{lexical_name, schema_name, query_name}
-use Rattle.wt_tool.specs.Outcomes.{Outcome}
+use Rattle.wt_tool.specs.declared.stop.Stop.{Stop}
+use Rattle.wt_tool.specs.Outcomes.{Outcome, Stops}
 use Rattle.wt_tool.specs.Printing.{query_text}
 use Rattle.wt_tool.specs.Queries.{is_rewritable, rewritten}
 use Rattle.wt_tool.specs.Words.{Names}
@@ -71,8 +73,20 @@ file_lines tables file = map (statement_line tables file.bytes) file.statements
 abbrev pub lines_text : List Line → List ℕ
 lines_text lines = flat_map (λ line. line.text) lines
 
+abbrev pub any_refused : List Line → Bool
+any_refused lines = list_any (λ line. line.refused) lines
+
+abbrev pub status_of : Bool → ℕ
+status_of true = 4
+status_of false = 0
+
 abbrev pub lines_outcome : List Line → Outcome
-lines_outcome lines = record { status = if list_any (λ line. line.refused) lines then 4 else 0; text = lines_text lines }
+lines_outcome lines = record { status = status_of (any_refused lines); text = lines_text lines }
+
+-- a part of a command puts lines, and tells whether one of them is a refusal
+abbrev pub PutsLines : Type 0 → Option (List ℕ) → Option (List ℕ) → List Line → Result Bool Stop → Type 0
+PutsLines write_rose old new lines (Ok refused) = (new ≡ append_known old (lines_text lines)) × (refused ≡ any_refused lines)
+PutsLines write_rose old new lines (Err stop) = Stops ⊥ write_rose old new (lines_text lines) stop
 
 -- The three files, each refused at its turn.
 

@@ -85,7 +85,7 @@ lines_outcome lines = record { status = status_of (any_refused lines); text = li
 
 -- a part of a command puts lines, and tells whether one of them is a refusal
 abbrev pub PutsLines : Type 0 → Option (List ℕ) → Option (List ℕ) → List Line → Result Bool Stop → Type 0
-PutsLines write_rose old new lines (Ok refused) = (new ≡ append_known old (lines_text lines)) × (refused ≡ any_refused lines)
+PutsLines write_rose old new lines (Ok some) = (new ≡ append_known old (lines_text lines)) × (some ≡ any_refused lines)
 PutsLines write_rose old new lines (Err stop) = Stops ⊥ write_rose old new (lines_text lines) stop
 
 -- The three files, each refused at its turn.

@@ -127,7 +127,9 @@ pub(crate) fn is_rewritable(schema: &Schema, query: &Query) -> bool
     }
     match &query.from {
         FromPart::Table {
-            name, alias: None, ..
+            name,
+            alias: None,
+            ..
         } => is_bare(name) && is_over(schema.tables.as_slice(), name, query.items.as_slice()),
         _ => false,
     }

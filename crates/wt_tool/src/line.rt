@@ -78,7 +78,12 @@ pub(crate) fn refusal_line(alloc: Global, kind: &str, at: u32) -> Result<Line, A
 }
 
 /// The line of a statement that begins at this offset and was read as this query.
-pub(crate) fn query_line(alloc: Global, schema: &Schema, query: &Query, at: u32) -> Result<Line, AllocError>
+pub(crate) fn query_line(
+    alloc: Global,
+    schema: &Schema,
+    query: &Query,
+    at: u32,
+) -> Result<Line, AllocError>
     ensures { IfOk result (λ line. line ≡ spec.tree_line schema.now.tables at (query_tree query.now)) }
 {
     match &query.from {

@@ -1,5 +1,5 @@
 //! `rewrite`, over three files.
-ghost use Rattle.std.specs.Prelude.{◌≡◌, ◌≤◌, ℕ, List, Some, IfOk, string_bytes, slice_get};
+ghost use Rattle.std.specs.Prelude.{◌≡◌, ◌<◌, ◌≤◌, length, ℕ, List, Some, IfOk, string_bytes, slice_get};
 ghost use Rattle.wt_ddl.specs.Schemas.{schema_of};
 ghost use Rattle.wt_grammar.specs.Statements.{Statement, file_of};
 ghost use Rattle.wt_io.specs.Causes.{Rose};
@@ -56,7 +56,13 @@ fn fault_text(alloc: Global, name: &str, at: u32, kind: &str) -> Result<String, 
     format!(in alloc; "fault {name} offset {at} {kind}\n")
 }
 
-fn put_fault<K: Sink>(alloc: Global, name: &str, at: u32, kind: &str, sink: &mut K) -> Result<u8, Stop>
+fn put_fault<K: Sink>(
+    alloc: Global,
+    name: &str,
+    at: u32,
+    kind: &str,
+    sink: &mut K,
+) -> Result<u8, Stop>
     ensures { Runs ⊥ (Rose (K.faults sink.old) (K.faults sink.new)) (K.written sink.old) (K.written sink.new) (spec.fault_at name.now at kind.now) result }
 {
     let Ok(text) = fault_text(alloc, name, at, kind) else {
@@ -72,7 +78,12 @@ fn put_too_long<K: Sink>(alloc: Global, name: &str, sink: &mut K) -> Result<u8, 
     put_fault(alloc, name, 16_777_216, "TooLong", sink)
 }
 
-fn statement_line(alloc: Global, schema: &Schema, queries: &Queries, n: u32) -> Result<Line, AllocError>
+fn statement_line(
+    alloc: Global,
+    schema: &Schema,
+    queries: &Queries,
+    n: u32,
+) -> Result<Line, AllocError>
     requires { n < length queries.now.statements }
     ensures { IfOk result (λ line. (s : Statement) → slice_get queries.now.statements n ≡ Some s → line ≡ spec.statement_line schema.now.tables queries.now.bytes s) }
 {
@@ -85,14 +96,20 @@ fn statement_line(alloc: Global, schema: &Schema, queries: &Queries, n: u32) -> 
 }
 
 // A line for each statement, one write each. It answers whether one of them was refused.
-fn put_lines<K: Sink>(alloc: Global, schema: &Schema, queries: &Queries, sink: &mut K) -> Result<bool, Stop>
+fn put_lines<K: Sink>(
+    alloc: Global,
+    schema: &Schema,
+    queries: &Queries,
+    sink: &mut K,
+) -> Result<bool, Stop>
+    requires { length queries.now.statements ≤ 16777216 }
     ensures { spec.PutsLines (Rose (K.faults sink.old) (K.faults sink.new)) (K.written sink.old) (K.written sink.new) (spec.file_lines schema.now.tables queries.now) result }
 {
     let mut refused = false;
     'statements: for n in 0..queries.count() {
         let line = statement_line(alloc, schema, queries, n)?;
         put(sink, line.text.as_slice())?;
-        refused = refused || line.refused;
+        refused |= line.refused;
     }
     Ok(refused)
 }
@@ -103,25 +120,54 @@ fn status_of(refused: bool) -> u8
     if refused { 4 } else { 0 }
 }
 
+// The lines of the statements, and the status.
+fn put_file<K: Sink>(
+    alloc: Global,
+    schema: &Schema,
+    queries: &Queries,
+    sink: &mut K,
+) -> Result<u8, Stop>
+    requires { length queries.now.statements ≤ 16777216 }
+    ensures { Runs ⊥ (Rose (K.faults sink.old) (K.faults sink.new)) (K.written sink.old) (K.written sink.new) (spec.lines_outcome (spec.file_lines schema.now.tables queries.now)) result }
+{
+    let refused = put_lines(alloc, schema, queries, sink)?;
+    Ok(status_of(refused))
+}
+
 // The statements over a schema that was read.
-fn put_queries<K: Sink>(alloc: Global, names: &Names<'_>, schema: &Schema, queries: &Input, sink: &mut K) -> Result<u8, Stop>
+fn put_queries<K: Sink>(
+    alloc: Global,
+    names: &Names<'_>,
+    schema: &Schema,
+    queries: &Input,
+    sink: &mut K,
+) -> Result<u8, Stop>
     ensures { Runs ⊥ (Rose (K.faults sink.old) (K.faults sink.new)) (K.written sink.old) (K.written sink.new) (spec.with_queries (names_of names.now) schema.now.tables queries.now) result }
 {
     let Input::Whole(bytes) = queries else {
         return put_too_long(alloc, names.queries, sink);
     };
     match read_queries(alloc, bytes.as_slice()) {
-        Ok(queries) => {
-            let refused = put_lines(alloc, schema, &queries, sink)?;
-            Ok(status_of(refused))
-        }
-        Err(LexError::Fault(fault, at)) => put_fault(alloc, names.queries, at, lexical_name(fault), sink),
+        Ok(queries) => put_file(alloc, schema, &queries, sink),
+        Err(LexError::Fault(fault, at)) => put_fault(
+            alloc,
+            names.queries,
+            at,
+            lexical_name(fault),
+            sink,
+        ),
         Err(LexError::Memory) => Err(Stop::Memory),
     }
 }
 
 // The schema and the statements.
-fn put_schema<K: Sink>(alloc: Global, names: &Names<'_>, schema: &Input, queries: &Input, sink: &mut K) -> Result<u8, Stop>
+fn put_schema<K: Sink>(
+    alloc: Global,
+    names: &Names<'_>,
+    schema: &Input,
+    queries: &Input,
+    sink: &mut K,
+) -> Result<u8, Stop>
     ensures { Runs ⊥ (Rose (K.faults sink.old) (K.faults sink.new)) (K.written sink.old) (K.written sink.new) (spec.with_rules (names_of names.now) schema.now queries.now) result }
 {
     let Input::Whole(bytes) = schema else {
@@ -129,8 +175,20 @@ fn put_schema<K: Sink>(alloc: Global, names: &Names<'_>, schema: &Input, queries
     };
     match read_schema(alloc, bytes.as_slice()) {
         Ok(schema) => put_queries(alloc, names, &schema, queries, sink),
-        Err(DdlError::Fault(fault, at)) => put_fault(alloc, names.schema, at, schema_name(fault), sink),
-        Err(DdlError::Lex(fault, at)) => put_fault(alloc, names.schema, at, lexical_name(fault), sink),
+        Err(DdlError::Fault(fault, at)) => put_fault(
+            alloc,
+            names.schema,
+            at,
+            schema_name(fault),
+            sink,
+        ),
+        Err(DdlError::Lex(fault, at)) => put_fault(
+            alloc,
+            names.schema,
+            at,
+            lexical_name(fault),
+            sink,
+        ),
         Err(DdlError::Memory) => Err(Stop::Memory),
     }
 }
@@ -144,7 +202,12 @@ struct Files {
 }
 
 // What the three files give: the fault of the first that is refused, or a line for each statement.
-fn answer<K: Sink>(alloc: Global, names: &Names<'_>, files: &Files, sink: &mut K) -> Result<u8, Stop>
+fn answer<K: Sink>(
+    alloc: Global,
+    names: &Names<'_>,
+    files: &Files,
+    sink: &mut K,
+) -> Result<u8, Stop>
     ensures { Runs ⊥ (Rose (K.faults sink.old) (K.faults sink.new)) (K.written sink.old) (K.written sink.new) (spec.rewriting (names_of names.now) files.now.rules files.now.schema files.now.queries) result }
 {
     if files.rules.is_empty_rules() {

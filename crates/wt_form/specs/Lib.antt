@@ -7,3 +7,4 @@ pub mod Steps
 pub mod Provable
 pub mod FormOf
 pub mod Weights
+pub mod Under

@@ -8,3 +8,4 @@ pub mod Provable
 pub mod FormOf
 pub mod Weights
 pub mod Under
+pub mod Relaxed

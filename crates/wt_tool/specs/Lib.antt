@@ -9,4 +9,5 @@ pub mod Printing
 pub mod LineItems
 pub mod Rewriting
 pub mod Laws
+pub mod Discovering
 pub mod Answers

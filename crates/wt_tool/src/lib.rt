@@ -2,6 +2,7 @@
 #![tactic(auto)]
 
 mod fault_names;
+mod discovering;
 mod form;
 mod input;
 mod line;

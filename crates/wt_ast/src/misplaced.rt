@@ -41,12 +41,28 @@ fn misplaced_in_from(from: &FromPart) -> Option<u32>
         match part {
             FromPart::Table { .. } => return found,
             FromPart::Derived { query, .. } => return either(query.misplaced(), found),
-            FromPart::Inner { left, right, on, .. } => {
-                found = either(misplaced_in_from(right), either(misplaced_in_cond(false, on), found));
+            FromPart::Inner {
+                left,
+                right,
+                on,
+                ..
+            } => {
+                found = either(
+                    misplaced_in_from(right),
+                    either(misplaced_in_cond(false, on), found),
+                );
                 part = left;
             }
-            FromPart::Left { left, right, on, .. } => {
-                found = either(misplaced_in_from(right), either(misplaced_in_cond(false, on), found));
+            FromPart::Left {
+                left,
+                right,
+                on,
+                ..
+            } => {
+                found = either(
+                    misplaced_in_from(right),
+                    either(misplaced_in_cond(false, on), found),
+                );
                 part = left;
             }
         }

@@ -4,10 +4,13 @@
 mod comparisons;
 mod error;
 mod front;
+mod lexemes;
 mod lists;
 mod parts;
 mod queries;
 mod sources;
+mod statements;
 
 pub use error::QueryError;
+pub use statements::{Queries, read_queries};
 pub use wt_grammar::QueryFault;

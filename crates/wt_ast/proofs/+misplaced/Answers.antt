@@ -16,7 +16,7 @@ misplaced::misplaced_in_conds-parts-preserved t c =
       first_one =
           ap (λ x. first (spec.misplaced_in_conds below (conditions_tree x))) c.deref-rest.ensures
           ∙ rest_first (spec.misplaced_in_cond below (condition_tree c.in-More.part.value)) (spec.misplaced_in_conds below (conditions_tree c.in-More.more.value))
-              (ap (λ x. first (spec.misplaced_in_cond below (condition_tree x))) (sym c.deref.ensures) ∙ sym c.misplaced_in_cond.ensures ∙ c.in_default.is)
+          (ap (λ x. first (spec.misplaced_in_cond below (condition_tree x))) (sym c.deref.ensures) ∙ sym c.misplaced_in_cond.ensures ∙ c.in_default.is)
           ∙ ap (λ x. first (spec.misplaced_in_conds below (conditions_tree x))) (sym c.in-More.is)
           ∙ c.parts.invariant.first_one;
     }
@@ -28,10 +28,10 @@ misplaced::misplaced_in_from-joins-preserved-in-Inner t c =
       first_one =
           ap (λ x. either (first (spec.misplaced_in_from (from_tree x))) c.either-found.result) c.deref-part.ensures
           ∙ joined_first (spec.misplaced_in_from (from_tree c.in-Inner.left.value)) (spec.misplaced_in_from (from_tree c.in-Inner.right.value))
-              (spec.misplaced_in_cond false (condition_tree c.in-Inner.on)) c.joins.found c.either-found.result
-              (c.either-found.ensures
-                  ∙ (λ i. either ((c.misplaced_in_from.ensures ∙ ap (λ x. first (spec.misplaced_in_from (from_tree x))) c.deref-in-Inner.ensures) i)
-                      ((c.either-in-Inner.ensures ∙ ap (λ x. either x c.joins.found) c.misplaced_in_cond.ensures) i)))
+          (spec.misplaced_in_cond false (condition_tree c.in-Inner.on)) c.joins.found c.either-found.result
+          (c.either-found.ensures
+          ∙ (λ i. either ((c.misplaced_in_from.ensures ∙ ap (λ x. first (spec.misplaced_in_from (from_tree x))) c.deref-in-Inner.ensures) i)
+          ((c.either-in-Inner.ensures ∙ ap (λ x. either x c.joins.found) c.misplaced_in_cond.ensures) i)))
           ∙ ap (λ x. either (first (spec.misplaced_in_from (from_tree x))) c.joins.found) (sym c.in-Inner.is)
           ∙ c.joins.invariant.first_one;
     }
@@ -43,10 +43,10 @@ misplaced::misplaced_in_from-joins-preserved t c =
       first_one =
           ap (λ x. either (first (spec.misplaced_in_from (from_tree x))) c.either-found-in-Left.result) c.deref-part-in-Left.ensures
           ∙ joined_first (spec.misplaced_in_from (from_tree c.in-Left.left.value)) (spec.misplaced_in_from (from_tree c.in-Left.right.value))
-              (spec.misplaced_in_cond false (condition_tree c.in-Left.on)) c.joins.found c.either-found-in-Left.result
-              (c.either-found-in-Left.ensures
-                  ∙ (λ i. either ((c.misplaced_in_from-in-Left.ensures ∙ ap (λ x. first (spec.misplaced_in_from (from_tree x))) c.deref-in-Left.ensures) i)
-                      ((c.either-in-Left.ensures ∙ ap (λ x. either x c.joins.found) c.misplaced_in_cond-in-Left.ensures) i)))
+          (spec.misplaced_in_cond false (condition_tree c.in-Left.on)) c.joins.found c.either-found-in-Left.result
+          (c.either-found-in-Left.ensures
+          ∙ (λ i. either ((c.misplaced_in_from-in-Left.ensures ∙ ap (λ x. first (spec.misplaced_in_from (from_tree x))) c.deref-in-Left.ensures) i)
+          ((c.either-in-Left.ensures ∙ ap (λ x. either x c.joins.found) c.misplaced_in_cond-in-Left.ensures) i)))
           ∙ ap (λ x. either (first (spec.misplaced_in_from (from_tree x))) c.joins.found) (sym c.in-Left.is)
           ∙ c.joins.invariant.first_one;
     }

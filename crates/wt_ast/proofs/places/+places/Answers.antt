@@ -15,11 +15,11 @@ places_in_from-joins-preserved-in-Inner t c =
       places =
           (λ i. spec.places_in_from what (from_tree (c.deref-part.ensures i)) ++ from_back c.push.new.self.items)
           ∙ joined_behind (spec.places_in_from what (from_tree c.in-Inner.left.value)) (spec.places_in_from what (from_tree c.in-Inner.right.value))
-              (spec.places_in_cond what (condition_tree c.in-Inner.on)) c.from_vec.result c.joins.behind.items c.push.new.self.items
-              (c.from_vec.ensures ∙ c.in_ok-places_in_cond-in-Inner.ensures
-                  ∙ ap (λ l. l ++ spec.places_in_cond what (condition_tree c.in-Inner.on))
-                      (c.in_ok-places_in_from-in-Inner.ensures ∙ (λ i. c.new-joined.ensures.items i ++ spec.places_in_from what (from_tree (c.deref-in-Inner.ensures i)))))
-              c.in_ok-push-in-Inner.ensures.items
+          (spec.places_in_cond what (condition_tree c.in-Inner.on)) c.from_vec.result c.joins.behind.items c.push.new.self.items
+          (c.from_vec.ensures ∙ c.in_ok-places_in_cond-in-Inner.ensures
+          ∙ ap (λ l. l ++ spec.places_in_cond what (condition_tree c.in-Inner.on))
+          (c.in_ok-places_in_from-in-Inner.ensures ∙ (λ i. c.new-joined.ensures.items i ++ spec.places_in_from what (from_tree (c.deref-in-Inner.ensures i)))))
+          c.in_ok-push-in-Inner.ensures.items
           ∙ ap (λ x. spec.places_in_from what (from_tree x) ++ from_back c.joins.behind.items) (sym c.in-Inner.is)
           ∙ c.joins.invariant.places;
     }
@@ -33,11 +33,11 @@ places_in_from-joins-preserved t c =
       places =
           (λ i. spec.places_in_from what (from_tree (c.deref-part-in-Left.ensures i)) ++ from_back c.push-in-Left.new.self.items)
           ∙ joined_behind (spec.places_in_from what (from_tree c.in-Left.left.value)) (spec.places_in_from what (from_tree c.in-Left.right.value))
-              (spec.places_in_cond what (condition_tree c.in-Left.on)) c.from_vec-in-Left.result c.joins.behind.items c.push-in-Left.new.self.items
-              (c.from_vec-in-Left.ensures ∙ c.in_ok-places_in_cond-in-Left.ensures
-                  ∙ ap (λ l. l ++ spec.places_in_cond what (condition_tree c.in-Left.on))
-                      (c.in_ok-places_in_from-in-Left.ensures ∙ (λ i. c.new-joined-in-Left.ensures.items i ++ spec.places_in_from what (from_tree (c.deref-in-Left.ensures i)))))
-              c.in_ok-push-in-Left.ensures.items
+          (spec.places_in_cond what (condition_tree c.in-Left.on)) c.from_vec-in-Left.result c.joins.behind.items c.push-in-Left.new.self.items
+          (c.from_vec-in-Left.ensures ∙ c.in_ok-places_in_cond-in-Left.ensures
+          ∙ ap (λ l. l ++ spec.places_in_cond what (condition_tree c.in-Left.on))
+          (c.in_ok-places_in_from-in-Left.ensures ∙ (λ i. c.new-joined-in-Left.ensures.items i ++ spec.places_in_from what (from_tree (c.deref-in-Left.ensures i)))))
+          c.in_ok-push-in-Left.ensures.items
           ∙ ap (λ x. spec.places_in_from what (from_tree x) ++ from_back c.joins.behind.items) (sym c.in-Left.is)
           ∙ c.joins.invariant.places;
     }

@@ -1,6 +1,6 @@
 -- The tree of a query by the fields of the query.
 use Rattle.std.proofs.Common.{◌≡◌, refl}
-use Rattle.wt_ast.specs.declared.tree.Query.{Query, Query', out-Query, Held-Query-filter, None', Some'}
+use Rattle.wt_ast.specs.declared.tree.Query.{Query, Query', out-Query, None', Some'}
 use Rattle.wt_ast.specs.Tree.{select, query_tree, from_tree, filter_tree}
 
 pub query_view : (q : Query) → query_tree q ≡ select (out-Query q).distinct (out-Query q).items (from_tree (out-Query q).from) (filter_tree (out-Query q).filter)

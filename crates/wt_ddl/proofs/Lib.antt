@@ -1,0 +1,10 @@
+pub mod Closed
+pub mod Created
+pub mod Firsts
+pub mod Lawful
+pub mod Linked
+pub mod LinkedUp
+pub mod Repeats
+pub mod Schemed
+pub mod Settled
+pub mod Turns

@@ -1,1 +1,5 @@
+pub mod Fronts
+pub mod Linking
+pub mod Reading
 pub mod Schemas
+pub mod Settling

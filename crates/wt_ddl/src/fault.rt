@@ -49,6 +49,7 @@ pub enum DdlError {
 impl From<AllocError> for DdlError {
     ghost use Rattle.std.specs.Prelude.{◌≡◌};
     ghost use Rattle.wt_ddl.specs.declared.fault.DdlError.TheVariants.{Memory};
+
     ghost from_gives = { λ _ e. e ≡ Memory };
 
     fn from(_error: AllocError) -> DdlError {
@@ -59,6 +60,7 @@ impl From<AllocError> for DdlError {
 impl<T: Drop> From<AllocFailed<T>> for DdlError {
     ghost use Rattle.std.specs.Prelude.{◌≡◌};
     ghost use Rattle.wt_ddl.specs.declared.fault.DdlError.TheVariants.{Memory};
+
     ghost from_gives = { λ _ e. e ≡ Memory };
 
     fn from(_error: AllocFailed<T>) -> DdlError {

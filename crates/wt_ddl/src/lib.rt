@@ -1,17 +1,19 @@
-//! Stub.
+//! Reads the CREATE TABLE statements of a schema.
 #![tactic(auto)]
 
-ghost use Rattle.wt_ddl.specs.Schemas.{schema_of, Reads};
-
+mod draft;
 mod fault;
+mod kinds;
+mod linking;
+mod names;
+mod reading;
+mod rest;
+mod rules;
+mod settling;
+mod statements;
+mod targets;
+#[cfg(test)]
+mod tests;
 
 pub use fault::{DdlError, DdlFault};
-
-use std::alloc::Global;
-use wt_schema::Schema;
-
-pub fn read_schema(_alloc: Global, _bytes: &[u8]) -> Result<Schema, DdlError>
-    ensures exact { Reads result (schema_of _bytes.now) }
-{
-    Err(DdlError::Memory)
-}
+pub use reading::read_schema;

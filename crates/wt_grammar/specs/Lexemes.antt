@@ -1,9 +1,8 @@
 -- Tokens as the grammar sees them.
-use Rattle.std.specs.Prelude.{ℕ, Bool, true, false, ◌||◌, List, [], ◌∷◌, drop}
-use Rattle.wt_lex.specs.declared.token.Token.{Token}
+use Rattle.std.specs.Prelude.{ℕ, Bool, true, false, ◌||◌, List, [], ◌∷◌}
 use Rattle.wt_lex.specs.declared.token.Sym.TheVariants as sym
 use Rattle.wt_grammar.specs.declared.lexeme.Kind.{Kind}
-use Rattle.wt_grammar.specs.declared.lexeme.Kind.TheVariants.{End, Key, Name, Number, Text, Mark, Odd}
+use Rattle.wt_grammar.specs.declared.lexeme.Kind.TheVariants.{End, Key, Name, Mark}
 use Rattle.wt_grammar.specs.declared.lexeme.Word.TheVariants as word
 use Rattle.wt_grammar.specs.declared.lexeme.Lexeme.{Lexeme}
 

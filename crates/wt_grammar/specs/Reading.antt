@@ -23,7 +23,7 @@ use Rattle.wt_grammar.specs.declared.lexeme.JoinKind.{JoinKind}
 use Rattle.wt_grammar.specs.declared.lexeme.JoinKind.TheVariants as joining
 use Rattle.wt_grammar.specs.declared.fault.QueryFault.{QueryFault}
 use Rattle.wt_grammar.specs.declared.fault.QueryFault.TheVariants as fault
-use Rattle.wt_grammar.specs.Lexemes.{Tokens, kind, place, is_and, is_or, is_not, is_select, is_distinct, is_all, is_from, is_where, is_between, is_is, is_null_word, is_in, is_as, is_inner, is_left, is_outer, is_join, is_on, is_open, is_close, is_comma, is_dot, is_star, is_name, is_end, begins_join}
+use Rattle.wt_grammar.specs.Lexemes.{Tokens, kind, place, is_and, is_or, is_not, is_select, is_distinct, is_all, is_from, is_where, is_between, is_is, is_null_word, is_in, is_as, is_inner, is_outer, is_join, is_on, is_open, is_close, is_comma, is_dot, is_star, is_name, is_end, begins_join}
 use Rattle.wt_grammar.specs.Refusals.{no_statement, no_operand, no_item, no_literal, beyond, no_negated, no_end, no_join, no_join_or_end, syntax}
 
 -- why a statement is refused: by its grammar, or for a token

@@ -2,7 +2,7 @@
 use Rattle.std.specs.Prelude.{Option, Some, None}
 use Rattle.wt_lex.specs.declared.token.Sym.TheVariants as sym
 use Rattle.wt_grammar.specs.declared.lexeme.Kind.{Kind}
-use Rattle.wt_grammar.specs.declared.lexeme.Kind.TheVariants.{End, Key, Name, Number, Text, Mark, Odd}
+use Rattle.wt_grammar.specs.declared.lexeme.Kind.TheVariants.{Key, Number, Text, Mark}
 use Rattle.wt_grammar.specs.declared.lexeme.Word.TheVariants as word
 use Rattle.wt_grammar.specs.declared.fault.QueryFault.{QueryFault}
 use Rattle.wt_grammar.specs.declared.fault.QueryFault.TheVariants as fault

@@ -1,5 +1,5 @@
 -- The statements of a file, and what each of them is: a query, or its first refusal.
-use Rattle.std.specs.Prelude.{ℕ, ◌+◌, ◌-◌, Bool, true, false, not, if◌then◌else◌, nat_lt, ◌==◌, min, List, [], ◌∷◌, length, map, filter, slice_get, Option, Some, None, Result, Ok, Err}
+use Rattle.std.specs.Prelude.{ℕ, ◌-◌, Bool, true, false, not, if◌then◌else◌, nat_lt, ◌==◌, min, List, [], ◌∷◌, length, map, filter, slice_get, Option, Some, None, Result, Ok, Err}
 use Rattle.wt_lex.specs.declared.token.Token.{Token}
 use Rattle.wt_lex.specs.declared.token.TokenKind.{TokenKind}
 use Rattle.wt_lex.specs.declared.token.TokenKind.TheVariants as kinds

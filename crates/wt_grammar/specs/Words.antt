@@ -1,5 +1,5 @@
 -- Which words are reserved, and what each token of a text is to the grammar.
-use Rattle.std.specs.Prelude.{ℕ, Bool, List, [], ◌∷◌, map, codes, Option, Some, None}
+use Rattle.std.specs.Prelude.{ℕ, List, [], ◌∷◌, codes, Option, Some, None}
 use Rattle.std.specs.List.{find}
 use Rattle.wt_lex.specs.declared.token.Token.{Token}
 use Rattle.wt_lex.specs.declared.token.TokenKind.{TokenKind}

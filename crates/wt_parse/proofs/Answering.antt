@@ -1,17 +1,15 @@
 -- The steps by which the answer to a statement is found.
-use Rattle.std.proofs.Common.{◌≡◌, ℕ, suc, ◌+◌, ◌-◌, ◌<◌, Bool, true, false, List, [], ◌∷◌, take, drop, refl, ap, sym, ◌∙◌, arith, Option, Some, None, Result, Ok, Err, subst}
+use Rattle.std.proofs.Common.{◌≡◌, ℕ, suc, ◌-◌, ◌<◌, true, false, List, [], ◌∷◌, take, refl, ap, ◌∙◌, arith, Some, Result, Err}
 use Rattle.std.specs.Prelude.{map, slice_get}
 use Rattle.std.specs.Result.{IsErrAnd}
 use Rattle.std.proofs.lemmas.Result.{err_from_is_err_and}
 use Rattle.wt_lex.specs.declared.token.Token.{Token}
-use Rattle.wt_lex.specs.declared.token.LexFault.{LexFault}
 use Rattle.wt_ast.specs.declared.tree.Query.{Query}
-use Rattle.wt_ast.specs.Tree.{QueryTree, query_tree}
-use Rattle.wt_ast.specs.Places.{misplaced, first}
+use Rattle.wt_ast.specs.Tree.{QueryTree}
 use Rattle.wt_grammar.specs.declared.fault.QueryFault.TheVariants.{TooLong}
 use Rattle.wt_grammar.specs.Words.{lexeme}
-use Rattle.wt_grammar.specs.Reading.{Read, refused, odd, statement}
-use Rattle.wt_grammar.specs.Statements.{Statement, Answer, begin, is_too_long, first_odd, placed, limited, lexical_or, answer}
+use Rattle.wt_grammar.specs.Reading.{Read, refused, statement}
+use Rattle.wt_grammar.specs.Statements.{Statement, Answer, begin, is_too_long, first_odd, limited, lexical_or, answer}
 use Rattle.wt_parse.specs.declared.error.QueryError.{QueryError}
 use Rattle.wt_parse.specs.declared.error.QueryError.TheVariants as errors
 use Rattle.wt_parse.specs.declared.statements.Piece.{Piece}

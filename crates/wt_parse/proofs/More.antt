@@ -1,5 +1,5 @@
 -- One turn of a loop over parts with a separator, and the exits of such loops.
-use Rattle.std.proofs.Common.{◌≡◌, ℕ, suc, zero, ◌+◌, ◌-◌, ◌<◌, ◌≤◌, Bool, true, false, List, [], ◌∷◌, ◌++◌, length, drop, refl, ap, sym, ◌∙◌, arith, append_assoc, add-zero, append-nil, Result, Ok, Err, add-one}
+use Rattle.std.proofs.Common.{◌≡◌, ℕ, suc, zero, ◌+◌, ◌-◌, ◌≤◌, Bool, true, false, List, [], ◌∷◌, ◌++◌, drop, refl, ap, sym, ◌∙◌, arith, append_assoc, add-zero, append-nil, Result, Ok, Err, add-one}
 use Rattle.std.specs.Prelude.{map}
 use Rattle.std.proofs.lemmas.List.{drop-drop}
 use Rattle.std.specs.Result.{IsErrAnd}
@@ -9,7 +9,7 @@ use Rattle.wt_grammar.specs.declared.lexeme.Kind.{Kind}
 use Rattle.wt_grammar.specs.declared.lexeme.Kind.TheVariants.{End}
 use Rattle.wt_grammar.specs.declared.lexeme.Lexeme.{Lexeme}
 use Rattle.wt_grammar.specs.Lexemes.{Tokens, kind, begins_join}
-use Rattle.wt_grammar.specs.Reading.{Read, Refusal, refused, odd, more, joined_to, taken, plus, followed, Nest, run, one_or, joins, join}
+use Rattle.wt_grammar.specs.Reading.{Read, Refusal, refused, odd, more, joined_to, plus, followed, Nest, run, one_or, joins, join}
 use Rattle.wt_parse.specs.declared.error.QueryError.{QueryError}
 use Rattle.wt_parse.specs.declared.error.QueryError.TheVariants as errors
 use Rattle.wt_parse.specs.Giving.{Gives, Fails, Adds, put_front}

@@ -4,7 +4,7 @@ use Rattle.wt_grammar.specs.declared.fault.QueryFault.TheVariants.{TooDeep}
 use Rattle.wt_ast.specs.Tree.{negated}
 use Rattle.wt_grammar.specs.Lexemes.{Tokens, place}
 use Rattle.wt_grammar.specs.Refusals.{syntax, no_join}
-use Rattle.wt_grammar.specs.Reading.{Read, refused, followed, plus, within, nest, neg, cond, joined, body, no_query_end}
+use Rattle.wt_grammar.specs.Reading.{refused, followed, plus, within, nest, neg, cond, joined, body, no_query_end}
 
 module _ (end : ℕ) (bytes : List ℕ) where
   pub no_room : (l : ℕ) → l ≡ 0 → (nest end bytes l).room ≡ false

@@ -1,5 +1,5 @@
 -- Pieces of a list that grow by one, and the statements that they are.
-use Rattle.std.proofs.Common.{◌≡◌, ◌≢◌, ℕ, suc, zero, ◌+◌, ◌-◌, ◌<◌, ◌≤◌, Bool, true, false, List, [], ◌∷◌, ◌++◌, length, take, drop, refl, ap, sym, ◌∙◌, arith, append_assoc, append-nil, Option, Some, None, subst, add-one, nat_lt, if◌then◌else◌, ◌==◌, length-drop, eq-eqb, Result, Ok, Err}
+use Rattle.std.proofs.Common.{◌≡◌, ℕ, suc, zero, ◌+◌, ◌-◌, ◌<◌, ◌≤◌, Bool, true, false, List, [], ◌∷◌, ◌++◌, length, take, drop, refl, ap, sym, ◌∙◌, arith, append_assoc, append-nil, Some, subst, nat_lt, ◌==◌, length-drop, eq-eqb, Ok}
 use Rattle.std.specs.Prelude.{map, filter, slice_get}
 use Rattle.std.proofs.lemmas.List.{take_more, map-append}
 use Rattle.std.proofs.lemmas.Option.{slice_get_within, get_or_from_slice_get}
@@ -10,7 +10,6 @@ use Rattle.std.specs.List.{All}
 use Rattle.std.proofs.lemmas.List.{length-take-le}
 use Rattle.std.proofs.lemmas.Bool.{ltb-true, ltb-false, ne_eqb}
 use Rattle.std.proofs.lemmas.List.Elements.{All-append, filter-append}
-use Rattle.wt_lex.specs.declared.token.LexFault.{LexFault}
 use Rattle.wt_lex.specs.Tokens.{lexed}
 use Rattle.wt_grammar.specs.Statements.{Statement, is_semicolon, add, cut, has_tokens, statements}
 

@@ -4,7 +4,7 @@ use Rattle.std.specs.Prelude.{map}
 use Rattle.wt_ast.specs.declared.tree.Condition.{Condition}
 use Rattle.wt_ast.specs.declared.tree.CondKind.{CondKind}
 use Rattle.wt_ast.specs.declared.tree.CondKind.TheVariants.{Compare, IsNull, IsNotNull, InList, InQuery', And, Or, Not'}
-use Rattle.wt_ast.specs.Tree.{CondTrees, CondTree, no_conds, cond_then, condition_tree, condition_trees, kind_tree, trees_of}
+use Rattle.wt_ast.specs.Tree.{CondTrees, CondTree, cond_then, condition_tree, condition_trees, kind_tree, trees_of}
 use Rattle.wt_grammar.specs.Reading.{cond_at, one_or}
 
 pub begins_at : (at : ℕ) (k : CondKind) → cond_at (kind_tree at k) ≡ at

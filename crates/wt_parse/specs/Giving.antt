@@ -1,5 +1,9 @@
 -- What a function of the reader returned, beside what a reading gives.
-use Rattle.std.specs.Prelude.{◌≡◌, ℕ, ◌+◌, List, ◌++◌, Result, Ok, Err}
+use Rattle.std.specs.Prelude.{◌≡◌, Bool, false, ℕ, ◌+◌, List, ◌++◌, Result, Ok, Err}
+use Rattle.wt_grammar.specs.declared.lexeme.Kind.{Kind}
+use Rattle.wt_grammar.specs.declared.lexeme.Word.{Word}
+use Rattle.wt_grammar.specs.declared.lexeme.Word.TheVariants as word
+use Rattle.wt_grammar.specs.Lexemes.{is_and, is_or}
 use Rattle.wt_grammar.specs.Reading.{Read, refused, odd}
 use Rattle.wt_parse.specs.declared.error.QueryError.{QueryError}
 use Rattle.wt_parse.specs.declared.error.QueryError.TheVariants as errors
@@ -24,3 +28,9 @@ put_front xs n (Err e) = Err e
 abbrev pub Adds : {A : Type 0} → Result ℕ QueryError → List A → List A → Read (List A) → Type 0
 Adds (Ok n) old new read = put_front old 0 read ≡ Ok (new, n)
 Adds (Err e) old new read = Fails e read
+
+-- the word between the parts of a run: AND or OR
+abbrev pub is_joint : Word → Kind → Bool
+is_joint word.And k = is_and k
+is_joint word.Or k = is_or k
+is_joint _ k = false

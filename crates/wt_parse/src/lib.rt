@@ -14,3 +14,6 @@ mod statements;
 pub use error::QueryError;
 pub use statements::{Queries, read_queries};
 pub use wt_grammar::QueryFault;
+
+#[cfg(test)]
+mod tests;

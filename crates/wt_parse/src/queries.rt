@@ -1,9 +1,10 @@
 //! Conditions, FROM and queries, by recursive descent. Each function reads what the definition of its name reads.
-ghost use Rattle.std.specs.Prelude.{◌≡◌, ◌<◌, ◌≤◌, ◌+◌, length, drop, map, IfOk};
+ghost use Rattle.std.specs.Prelude.{◌≡◌, ◌<◌, ◌≤◌, ◌+◌, length, drop, map, IfOk, true};
 ghost use Rattle.wt_ast.specs.Tree.{condition_tree, filter_tree, from_tree, query_tree};
+ghost use Rattle.wt_grammar.specs.Lexemes as lexemes;
 ghost use Rattle.wt_grammar.specs.Lexemes.{is_and, is_or};
 ghost use Rattle.wt_grammar.specs.Reading as spec;
-ghost use Rattle.wt_parse.specs.Giving.{Gives, Adds};
+ghost use Rattle.wt_parse.specs.Giving.{Gives, Adds, is_joint};
 
 use crate::comparisons::{
     after_not, all_or_one, any_or_one, between, compared, is_part, negation, values,
@@ -21,7 +22,19 @@ use crate::sources::{
 };
 use std::alloc::Global;
 use wt_ast::{ColumnName, ColumnNames, CondKind, Condition, FromPart, Items, Query, Scalar};
-use wt_grammar::{JoinKind, Kind, Lexeme, QueryFault};
+use wt_grammar::{JoinKind, Kind, Lexeme, QueryFault, Word};
+
+// Whether the word between the parts of a run stands here.
+fn at_joint(word: Word, ts: &[Lexeme]) -> bool
+    ensures value { result ≡ is_joint word (lexemes.kind ts.now) }
+    ensures some { result ≡ true → 0 < length ts.now }
+{
+    match word {
+        Word::And => at_and(ts),
+        Word::Or => at_or(ts),
+        _ => false,
+    }
+}
 
 #[cycle(read)]
 #[tactic(auto, unfolding(wt_grammar::specs::Reading::cond, wt_grammar::specs::Reading::run))]
@@ -54,7 +67,7 @@ fn more_conj(
     ensures within { IfOk result (λ n. n ≤ length ts.now) }
 {
     let mut at = 0;
-    'parts: while at_or(after(ts, at)) {
+    'parts: while at_joint(Word::Or, after(ts, at)) {
         let (part, m) = conj(alloc, bytes, after(ts, at + 1), end, levels)?;
         parts.push(part)?;
         at += m + 1;
@@ -93,7 +106,7 @@ fn more_neg(
     ensures within { IfOk result (λ n. n ≤ length ts.now) }
 {
     let mut at = 0;
-    'parts: while at_and(after(ts, at)) {
+    'parts: while at_joint(Word::And, after(ts, at)) {
         let (part, m) = neg(alloc, bytes, after(ts, at + 1), end, levels)?;
         parts.push(part)?;
         at += m + 1;

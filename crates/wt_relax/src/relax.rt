@@ -5,7 +5,7 @@ ghost use Rattle.wt_symbol.specs.Sides.{tree_of, pair_of};
 ghost use Rattle.wt_symbol.specs.Lawful.{IsLawful};
 ghost use Rattle.wt_constraint.specs.declared.set.AtomSet.{AtomSet};
 ghost use Rattle.wt_form.specs.Under.{Provable};
-ghost use Rattle.wt_form.specs.Relaxed.{LeavesOut, Relaxed, IsLeast, IsRule};
+ghost use Rattle.wt_form.specs.Relaxed.{LeavesOut, Relaxed, IsLeast, AreRules};
 ghost use Rattle.wt_prover.specs.SideTowers.{IsTower};
 ghost use Rattle.wt_relax.specs.SetLists.{Ascending, AreThose, Gains, IsStepFrom, IsStepFromSome, IsReady};
 
@@ -258,8 +258,7 @@ pub fn rules_of_pair(
     requires lawful { IsLawful (pair_of pair.now) }
     requires source { IsTower (tree_of pair.now.source) }
     requires dest { IsTower (tree_of pair.now.dest) }
-    ensures rules { IfOk result (λ rules. AreThose (IsRule (pair_of pair.now) steps depth) rules) }
-    ensures ascending { IfOk result (λ rules. Ascending rules) }
+    ensures { IfOk result (λ rules. AreRules (pair_of pair.now) steps depth rules) }
 {
     let atoms = atoms_of(alloc, pair)?;
     let sets = relaxed_sets(alloc, pair, &atoms, depth, steps)?;

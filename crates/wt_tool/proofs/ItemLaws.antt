@@ -1,5 +1,5 @@
 -- The text of a rewritten query, made piece by piece.
-use Rattle.std.proofs.Common.{◌≡◌, ◌≢◌, ◌∙◌, ℕ, ◌+◌, ◌<◌, ◌==◌, Bool, true, false, List, [], ◌∷◌, ◌++◌, length, take, map, get_or, refl, ap, sym, append_assoc, arith, add-one, codes}
+use Rattle.std.proofs.Common.{◌≡◌, ◌≢◌, ◌∙◌, ℕ, ◌+◌, ◌<◌, ◌==◌, false, List, [], ◌∷◌, ◌++◌, length, take, map, get_or, ap, sym, append_assoc, arith, add-one, codes}
 use Rattle.std.specs.List.{flat_map}
 use Rattle.std.proofs.Math.Seq.{take-suc}
 use Rattle.std.proofs.lemmas.List.{append-nil, map-append, length-take-le}
@@ -8,7 +8,7 @@ use Rattle.std.proofs.lemmas.List.Concat.{flat_map-cons}
 use Rattle.std.proofs.lemmas.Grind.{flat_map-append}
 use Rattle.wt_ast.specs.declared.tree.Item.{Item}
 use Rattle.wt_tool.specs.LineItems.{item_after, items_rewritten, text_over}
-use Rattle.wt_tool.specs.Printing.{item_text, items_text}
+use Rattle.wt_tool.specs.Printing.{item_text}
 use Rattle.wt_tool.specs.Queries.{item_rewritten}
 
 -- an item behind a comma and a blank

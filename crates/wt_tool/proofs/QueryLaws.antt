@@ -1,21 +1,20 @@
 -- The laws on queries over one table.
-use Rattle.std.proofs.Common.{◌≡◌, ◌∙◌, ℕ, Bool, true, false, ◌&&◌, cond, List, [], ◌∷◌, map, refl, ap, codes}
+use Rattle.std.proofs.Common.{◌≡◌, ◌∙◌, ℕ, Bool, true, false, ◌&&◌, List, [], ◌∷◌, map, refl, ap, codes}
 use Rattle.std.specs.Prelude.{Some, None, is_some, slice_get, unwrap_or, option_and_then}
 use Rattle.std.specs.List.{list_all}
 use Rattle.std.specs.Str.{bytes_eq}
 use Rattle.std.specs.declared.option.Option.{Option}
 use Rattle.std.proofs.lemmas.Slice.Eq.{bytes_eq-Decides}
-use Rattle.wt_ast.specs.Tree.{QueryTree, FromTree, FilterTree, CondTree, select, table, derived, inner_join, left_join, no_filter, filter_by}
-use Rattle.wt_ast.specs.declared.tree.ColumnName.{ColumnName}
+use Rattle.wt_ast.specs.Tree.{QueryTree, select, table, derived, inner_join, left_join, no_filter}
 use Rattle.wt_ast.specs.declared.tree.Item.{Item}
 use Rattle.wt_ast.specs.declared.tree.Item.TheVariants as items
-use Rattle.wt_bag.specs.Bags.{OneBag, count_of}
-use Rattle.wt_schema.specs.Satisfying.{Satisfies, rows_of}
+use Rattle.wt_bag.specs.Bags.{count_of}
+use Rattle.wt_schema.specs.Satisfying.{rows_of}
 use Rattle.wt_schema.specs.declared.schema.Table.{Table}
 use Rattle.wt_value.specs.Values.{Tuple, row_same}
 use Rattle.wt_tool.specs.Laws.{KeepsNames, KeepsRows}
 use Rattle.wt_tool.specs.Names.{is_bare}
-use Rattle.wt_tool.specs.Queries.{are_items_of, column_place, is_item_of, is_rewritable, item_rewritten, item_value, names_column, output_name, output_names, query_rows, rewritten, rows_at, rows_in, table_place}
+use Rattle.wt_tool.specs.Queries.{are_items_of, column_place, is_item_of, is_rewritable, item_rewritten, item_value, output_name, output_names, query_rows, rewritten, rows_at, rows_in, table_place}
 
 -- two tests that hold together hold each
 both_hold : (a b : Bool) → (a && b) ≡ true → (a ≡ true) × (b ≡ true)

@@ -1,7 +1,7 @@
 -- What the clause of a run says of its statuses one by one.
-use Rattle.std.proofs.Common.{◌≡◌, ◌≢◌, ◌∙◌, ℕ, ◌≤◌, List, ◌⊎◌, Bool, true, false, refl, sym, cond, arith, inl, inr, rules}
+use Rattle.std.proofs.Common.{◌≡◌, ◌≢◌, ◌∙◌, ℕ, ◌≤◌, List, ◌⊎◌, Bool, true, false, sym, cond, arith, rules}
 use Rattle.std.proofs.lemmas.Result.{IfOk-from_err}
-use Rattle.std.specs.Prelude.{Some, None, Ok, Err, IsErr, MatchResult, Result}
+use Rattle.std.specs.Prelude.{Ok, Err, IsErr, MatchResult, Result}
 use Rattle.std.specs.Io.KnownBytes.{append_known}
 use Rattle.std.specs.declared.option.Option.{Option}
 use Rattle.wt_tool.specs.declared.input.Input.{Input}

@@ -1,7 +1,7 @@
 -- The text of a rewritten query over one table, piece by piece.
 use Rattle.std.specs.Prelude.{ℕ, Bool, true, false, List, [], ◌∷◌, map, ◌++◌, codes}
 use Rattle.wt_ast.specs.declared.tree.Item.{Item}
-use Rattle.wt_tool.specs.Printing.{item_text, items_text}
+use Rattle.wt_tool.specs.Printing.{items_text}
 use Rattle.wt_tool.specs.Queries.{item_rewritten}
 
 abbrev pub items_rewritten : List Item → List ℕ

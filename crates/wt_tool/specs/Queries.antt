@@ -1,10 +1,10 @@
 -- Queries `SELECT T.c, .. FROM T` over a table of a schema: their rows on a database, their output names, and what becomes of them.
-use Rattle.std.specs.Prelude.{ℕ, ◌&&◌, Bool, true, false, List, [], ◌∷◌, map, get_or, codes, if◌then◌else◌, Some, None, is_some, unwrap_or, position, slice_get, option_and_then}
+use Rattle.std.specs.Prelude.{ℕ, ◌&&◌, Bool, false, List, [], map, get_or, codes, if◌then◌else◌, Some, None, is_some, unwrap_or, position, slice_get, option_and_then}
 use Rattle.std.specs.List.{list_all}
 use Rattle.std.specs.Option.{option_map_or}
 use Rattle.std.specs.Str.{bytes_eq}
 use Rattle.std.specs.declared.option.Option.{Option}
-use Rattle.wt_ast.specs.Tree.{QueryTree, FromTree, FilterTree, select, table, no_filter}
+use Rattle.wt_ast.specs.Tree.{QueryTree, select, table, no_filter}
 use Rattle.wt_ast.specs.declared.tree.ColumnName.{ColumnName}
 use Rattle.wt_ast.specs.declared.tree.Item.{Item}
 use Rattle.wt_ast.specs.declared.tree.Item.TheVariants as items

@@ -68,17 +68,17 @@ fn words(alloc: Global, text: &str) -> io::Result<Vec<String>> {
 
 /// A run, and what it must answer. A failing call is a number from 1, or 0 for none.
 #[derive(Clone, Copy)]
-struct Case<'a> {
-    words: &'a str,
-    schema: &'a [u8],
-    queries: &'a [u8],
+struct Case {
+    words: &'static str,
+    schema: &'static [u8],
+    queries: &'static [u8],
     failing_read: u64,
     failing_write: u64,
     status: u8,
-    written: &'a [u8],
+    written: &'static [u8],
 }
 
-const PLAIN: Case<'static> = Case {
+const PLAIN: Case = Case {
     words: "rewrite A S Q",
     schema: SCHEMA,
     queries: QUERY,
@@ -88,15 +88,21 @@ const PLAIN: Case<'static> = Case {
     written: LINE,
 };
 
-fn check<R: Threads + Wait + Sync + Abort + AllocGlobal>(
+fn answers<R: Threads + Wait + Sync + Abort + AllocGlobal>(
     rt: &R,
-    case: &Case<'_>,
-) -> Result<(), Fail> {
+    names: &str,
+    store: &mut MemStore,
+    sink: &mut MemSink,
+) -> Result<u8, Fail> {
+    let words = words(rt.alloc(), names)?;
+    Ok(wetune(rt, rt.alloc(), &words, store, sink, &NoGate))
+}
+
+fn check<R: Threads + Wait + Sync + Abort + AllocGlobal>(rt: &R, case: &Case) -> Result<(), Fail> {
     let alloc = rt.alloc();
-    let words = words(alloc, case.words)?;
     let mut store = store(alloc, case.schema, case.queries, case.failing_read)?;
     let mut sink = MemSink::new(alloc, 4096, calls(alloc, case.failing_write)?)?;
-    let status = wetune(rt, alloc, &words, &mut store, &mut sink, &NoGate);
+    let status = answers(rt, case.words, &mut store, &mut sink)?;
     assert_eq!(rt; status, case.status, "{}", case.words);
     assert_eq!(rt; sink.as_bytes(), case.written, "{}", case.words);
     Ok(())
@@ -302,16 +308,14 @@ fn check_length<R: Threads + Wait + Sync + Abort + AllocGlobal>(
     status: u8,
     written: &[u8],
 ) -> Result<(), Fail> {
-    let queries = long_statement(rt.alloc(), length)?;
-    check(
-        rt,
-        &Case {
-            queries: queries.as_slice(),
-            status,
-            written,
-            ..PLAIN
-        },
-    )
+    let alloc = rt.alloc();
+    let queries = long_statement(alloc, length)?;
+    let mut store = store(alloc, SCHEMA, &queries, 0)?;
+    let mut sink = MemSink::new(alloc, 4096, CallList::new(alloc))?;
+    let found = answers(rt, "rewrite A S Q", &mut store, &mut sink)?;
+    assert_eq!(rt; found, status, "{length} bytes");
+    assert_eq!(rt; sink.as_bytes(), written, "{length} bytes");
+    Ok(())
 }
 
 #[test]

@@ -1,4 +1,4 @@
-use Rattle.std.proofs.Common.{◌≡◌, ◌∙◌, ◌+◌, ◌-◌, ◌^◌, ap, sym, arith, min}
+use Rattle.std.proofs.Common.{◌∙◌, ◌+◌, ◌-◌, ◌^◌, ap, sym, arith, min}
 use Rattle.wt_ast.specs.Tree.{conditions_tree}
 use Rattle.wt_ast.specs.Places.{conjunct_sum}
 use Rattle.wt_ast.proofs.+conjuncts.Goals as goal

@@ -1,4 +1,4 @@
-use Rattle.std.proofs.Common.{◌≡◌, ◌∙◌, ◌++◌, ap, sym, rules, false}
+use Rattle.std.proofs.Common.{◌∙◌, ◌++◌, ap, sym, rules, false}
 use Rattle.wt_ast.specs.Tree.{condition_tree, conditions_tree, from_tree, filter_tree}
 use Rattle.wt_ast.specs.Places as spec
 use Rattle.wt_ast.specs.Places.{first, either}

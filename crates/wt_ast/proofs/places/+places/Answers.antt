@@ -1,4 +1,4 @@
-use Rattle.std.proofs.Common.{◌≡◌, ◌∙◌, ◌++◌, ap, sym, rules}
+use Rattle.std.proofs.Common.{◌∙◌, ◌++◌, ap, sym, rules}
 use Rattle.wt_ast.specs.Tree.{from_tree, condition_tree}
 use Rattle.wt_ast.specs.Lists.{from_back}
 use Rattle.wt_ast.specs.Places as spec

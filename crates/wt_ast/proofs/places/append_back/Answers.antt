@@ -1,4 +1,4 @@
-use Rattle.std.proofs.Common.{◌≡◌, ◌∙◌, ◌++◌, ap, sym, append_assoc}
+use Rattle.std.proofs.Common.{◌∙◌, ◌++◌, ap, sym, append_assoc}
 use Rattle.wt_ast.specs.Lists.{from_back}
 use Rattle.wt_ast.proofs.Lists.{from_back_last}
 use Rattle.wt_ast.proofs.places.append_back.Goals as goal

@@ -8,10 +8,10 @@ use Rattle.wt_lex.proofs.tokens.cut.Goals as goal
 
 pub returns-in_err-at-clause-exact : goal.returns-in_err-at-clause-exact
 returns-in_err-at-clause-exact c =
-      gives_err (λ v. v) c.from_residual.result c.in_err-at.field-0.0 (λ place. (tokens.is_closed (spec.front c.split_at.result.1.now) ≡ false) × (place ≡ c.fronts.at)) _
-      c.from_residual.ensures.1
-      c.in_err-at.ensures.err
-      (λ place h. sym c.fronts.invariant.exact ∙ cut_open (shown_all c.fronts.great.items c.fronts.stored.items) c.fronts.at c.args.bytes.now c.split_at.result.1.now c.split_at.ensures.back c.fronts-test.true h.0 ∙ ap Err (sym h.1))
+    gives_err (λ v. v) c.from_residual.result c.in_err-at.field-0.0 (λ place. (tokens.is_closed (spec.front c.split_at.result.1.now) ≡ false) × (place ≡ c.fronts.at)) _
+    c.from_residual.ensures.1
+    c.in_err-at.ensures.err
+    (λ place h. sym c.fronts.invariant.exact ∙ cut_open (shown_all c.fronts.great.items c.fronts.stored.items) c.fronts.at c.args.bytes.now c.split_at.result.1.now c.split_at.ensures.back c.fronts-test.true h.0 ∙ ap Err (sym h.1))
 
 pub fronts-preserved : goal.fronts-preserved
 fronts-preserved c =
@@ -28,10 +28,10 @@ fronts-preserved c =
 
 pub returns-clause-exact : goal.returns-clause-exact
 returns-clause-exact c =
-      ap tokens.open_quote
-      (sym c.fronts.invariant.exact
-      ∙ ap (tokens.before (shown_all c.fronts.great.items c.fronts.stored.items)) (tokens_none c.fronts.at (drop c.fronts.at c.args.bytes.now) (omega (arith, length-drop c.fronts.at c.args.bytes.now)))
-      ∙ ap Ok (append-nil (shown_all c.fronts.great.items c.fronts.stored.items)))
+    ap tokens.open_quote
+    (sym c.fronts.invariant.exact
+    ∙ ap (tokens.before (shown_all c.fronts.great.items c.fronts.stored.items)) (tokens_none c.fronts.at (drop c.fronts.at c.args.bytes.now) (omega (arith, length-drop c.fronts.at c.args.bytes.now)))
+    ∙ ap Ok (append-nil (shown_all c.fronts.great.items c.fronts.stored.items)))
 
 pub returns-clause-few : goal.returns-clause-few
 returns-clause-few c = rw (length-shown_all c.fronts.great.items c.fronts.stored.items) (omega arith)

@@ -1,4 +1,4 @@
-use Rattle.std.proofs.Common.{◌≡◌, ap, is_ok, IfOk, rules, subst}
+use Rattle.std.proofs.Common.{◌≡◌, IfOk, rules, subst}
 use Rattle.wt_ast.specs.Tree.{any_of, CondTree, condition_tree}
 use Rattle.wt_parse.proofs.Views.{one}
 use Rattle.wt_parse.proofs.comparisons.any_or_one.Goals as goal

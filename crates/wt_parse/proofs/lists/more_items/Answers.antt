@@ -1,4 +1,4 @@
-use Rattle.std.proofs.Common.{◌≡◌, ◌∙◌, ◌+◌, sym, ap, arith, drop, length, length-drop, is_ok, refl}
+use Rattle.std.proofs.Common.{◌∙◌, ◌+◌, sym, ap, arith, length, length-drop, is_ok, refl}
 use Rattle.std.proofs.ResultArms.{chosen}
 use Rattle.wt_grammar.specs.Lexemes.{is_comma, kind}
 use Rattle.wt_grammar.specs.Reading as spec

@@ -1,24 +1,24 @@
-use Rattle.std.proofs.Common.{◌≡◌, ◌∙◌, ◌+◌, sym, ap, arith, drop, length, length-drop, add-zero, is_ok, refl, Ok}
+use Rattle.std.proofs.Common.{◌∙◌, ◌+◌, sym, ap, arith, drop, length, length-drop, add-zero, is_ok, refl, Ok}
 use Rattle.std.specs.Prelude.{map}
 use Rattle.std.proofs.lemmas.List.{drop-drop}
 use Rattle.std.proofs.ResultArms.{chosen}
 use Rattle.wt_ast.specs.Tree.{condition_tree, from_tree}
 use Rattle.wt_grammar.specs.Lexemes.{begins_join, is_and, is_or, kind}
 use Rattle.wt_grammar.specs.Reading as spec
-use Rattle.wt_parse.proofs.More.{loop_goes, loop_fails, loop_stops, exit, gives_exit, put_err, map_push, joins_go, joins_fail, joins_stop, plus_plus, plus_zero}
+use Rattle.wt_parse.proofs.More.{loop_goes, loop_fails, loop_stops, exit, gives_exit, put_err, map_push, joins_go, joins_fail, joins_stop, plus_plus}
 use Rattle.wt_parse.proofs.queries.+read.Goals as goal
 
 pub more_conj-returns-in_err-part-clause-exact : goal.more_conj-returns-in_err-part-clause-exact
 more_conj-returns-in_err-part-clause-exact t c =
-    let word = ap (λ l. is_or (kind l)) (sym c.after.ensures) ∙ sym c.at_or.ensures.value ∙ c.parts-test.true in
+    let word = ap (λ l. is_or (kind l)) (sym c.after.ensures) ∙ sym c.at_joint.ensures.value ∙ c.parts-test.true in
     exit condition_tree c.in_err-part.field-0.0 c.from_residual.result _ _ (spec.conj c.args.end c.args.bytes.now (spec.nest c.args.end c.args.bytes.now c.args.levels) c.after-in-parts.result.now) _ c.from_residual.ensures.1 c.in_err-part.ensures.exact
     (λ f h. put_err _ _ _ f (sym c.parts.invariant.exact ∙ loop_fails is_or (spec.conj c.args.end c.args.bytes.now (spec.nest c.args.end c.args.bytes.now c.args.levels)) (map condition_tree c.parts.parts.items) c.parts.at f c.args.ts.now refl word
     (ap (spec.conj c.args.end c.args.bytes.now (spec.nest c.args.end c.args.bytes.now c.args.levels)) (sym c.after-in-parts.ensures) ∙ h)))
 
 pub more_conj-parts-preserved : goal.more_conj-parts-preserved
 more_conj-parts-preserved t c =
-    let word = ap (λ l. is_or (kind l)) (sym c.after.ensures) ∙ sym c.at_or.ensures.value ∙ c.parts-test.true in
-    let some = c.at_or.ensures.some c.parts-test.true in
+    let word = ap (λ l. is_or (kind l)) (sym c.after.ensures) ∙ sym c.at_joint.ensures.value ∙ c.parts-test.true in
+    let some = c.at_joint.ensures.some c.parts-test.true in
     let here = ap length c.after.ensures ∙ length-drop c.parts.at c.args.ts.now in
     let rest = ap length c.after-in-parts.ensures ∙ length-drop (c.parts.at + 1) c.args.ts.now in
     record {
@@ -32,20 +32,20 @@ more_conj-parts-preserved t c =
 
 pub more_conj-returns-clause-exact : goal.more_conj-returns-clause-exact
 more_conj-returns-clause-exact t c =
-    let none = ap (λ l. is_or (kind l)) (sym c.after.ensures) ∙ sym c.at_or.ensures.value ∙ c.parts-test.false in
+    let none = ap (λ l. is_or (kind l)) (sym c.after.ensures) ∙ sym c.at_joint.ensures.value ∙ c.parts-test.false in
     sym c.parts.invariant.exact ∙ loop_stops is_or (spec.conj c.args.end c.args.bytes.now (spec.nest c.args.end c.args.bytes.now c.args.levels)) (map condition_tree c.parts.parts.items) c.parts.at c.args.ts.now none
 
 pub more_neg-returns-in_err-part-clause-exact : goal.more_neg-returns-in_err-part-clause-exact
 more_neg-returns-in_err-part-clause-exact t c =
-    let word = ap (λ l. is_and (kind l)) (sym c.after.ensures) ∙ sym c.at_and.ensures.value ∙ c.parts-test.true in
+    let word = ap (λ l. is_and (kind l)) (sym c.after.ensures) ∙ sym c.at_joint.ensures.value ∙ c.parts-test.true in
     exit condition_tree c.in_err-part.field-0.0 c.from_residual.result _ _ (spec.neg c.args.end c.args.bytes.now (spec.nest c.args.end c.args.bytes.now c.args.levels) c.after-in-parts.result.now) _ c.from_residual.ensures.1 c.in_err-part.ensures.exact
     (λ f h. put_err _ _ _ f (sym c.parts.invariant.exact ∙ loop_fails is_and (spec.neg c.args.end c.args.bytes.now (spec.nest c.args.end c.args.bytes.now c.args.levels)) (map condition_tree c.parts.parts.items) c.parts.at f c.args.ts.now refl word
     (ap (spec.neg c.args.end c.args.bytes.now (spec.nest c.args.end c.args.bytes.now c.args.levels)) (sym c.after-in-parts.ensures) ∙ h)))
 
 pub more_neg-parts-preserved : goal.more_neg-parts-preserved
 more_neg-parts-preserved t c =
-    let word = ap (λ l. is_and (kind l)) (sym c.after.ensures) ∙ sym c.at_and.ensures.value ∙ c.parts-test.true in
-    let some = c.at_and.ensures.some c.parts-test.true in
+    let word = ap (λ l. is_and (kind l)) (sym c.after.ensures) ∙ sym c.at_joint.ensures.value ∙ c.parts-test.true in
+    let some = c.at_joint.ensures.some c.parts-test.true in
     let here = ap length c.after.ensures ∙ length-drop c.parts.at c.args.ts.now in
     let rest = ap length c.after-in-parts.ensures ∙ length-drop (c.parts.at + 1) c.args.ts.now in
     record {
@@ -59,7 +59,7 @@ more_neg-parts-preserved t c =
 
 pub more_neg-returns-clause-exact : goal.more_neg-returns-clause-exact
 more_neg-returns-clause-exact t c =
-    let none = ap (λ l. is_and (kind l)) (sym c.after.ensures) ∙ sym c.at_and.ensures.value ∙ c.parts-test.false in
+    let none = ap (λ l. is_and (kind l)) (sym c.after.ensures) ∙ sym c.at_joint.ensures.value ∙ c.parts-test.false in
     sym c.parts.invariant.exact ∙ loop_stops is_and (spec.neg c.args.end c.args.bytes.now (spec.nest c.args.end c.args.bytes.now c.args.levels)) (map condition_tree c.parts.parts.items) c.parts.at c.args.ts.now none
 
 pub joins-returns-in_err-wider-clause-exact : goal.joins-returns-in_err-wider-clause-exact

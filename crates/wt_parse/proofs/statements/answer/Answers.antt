@@ -1,13 +1,10 @@
-use Rattle.std.proofs.Common.{◌≡◌, ◌∙◌, ap, sym, subst, arith, true, false, ◌-◌, nat_lt, Err, Ok, Option, None, List}
+use Rattle.std.proofs.Common.{◌≡◌, ◌∙◌, ap, sym, subst, arith, Err, None, List}
 use Rattle.std.specs.Prelude.{map}
 use Rattle.std.proofs.lemmas.Bool.{lt-ltb, le-ltb}
 use Rattle.wt_lex.specs.declared.token.Token.{Token}
-use Rattle.wt_ast.specs.Tree.{query_tree}
-use Rattle.wt_ast.specs.Places.{misplaced, first}
 use Rattle.wt_grammar.specs.Reading.{refused, statement}
 use Rattle.wt_grammar.specs.Statements as spec
 use Rattle.wt_grammar.specs.declared.fault.QueryFault.TheVariants.{TooLong}
-use Rattle.wt_parse.specs.Giving.{Fails}
 use Rattle.wt_parse.specs.Held.{shown, Answers, NoOdd}
 use Rattle.wt_parse.proofs.Answering.{begins, too_long, short_enough, tokens_back, odd_exit, read_exit, read}
 use Rattle.wt_parse.proofs.statements.answer.Goals as goal

@@ -1,4 +1,4 @@
-use Rattle.std.proofs.Common.{◌≡◌, ◌+◌, ◌≤◌, arith, length}
+use Rattle.std.proofs.Common.{◌+◌, ◌≤◌, arith, length}
 use Rattle.wt_parse.proofs.Pieces.{turn, cut_ends, holds_more}
 use Rattle.wt_parse.proofs.statements.cut.Goals as goal
 

@@ -1,5 +1,5 @@
-use Rattle.std.proofs.Common.{◌≡◌, arith}
 use Rattle.std.proofs.lemmas.List.{length-map}
+use Rattle.std.proofs.Common.{arith}
 use Rattle.wt_parse.proofs.Pieces.{is_short}
 use Rattle.wt_parse.proofs.statements.read_queries.Goals as goal
 

@@ -1,6 +1,5 @@
-use Rattle.std.proofs.Common.{refl, ◌≡◌, ◌<◌, length, arith, sym, subst, ◌∙◌, get_or, List, ap}
+use Rattle.std.proofs.Common.{refl, ◌<◌, length, arith, sym, ◌∙◌, get_or, ap}
 use Rattle.std.proofs.lemmas.Bool.{false≢true}
-use Rattle.wt_value.specs.Values.{Tuple}
 use Rattle.wt_schema.proofs.Holding.{hold_more, holds_at}
 use Rattle.wt_schema.proofs.satisfying.all_hold.Goals as goal
 

@@ -1,9 +1,9 @@
-use Rattle.std.proofs.Common.{refl, ◌≡◌, ◌∙◌, ◌↔◌, arith, sym, subst, List, drop, IsTrue, false}
-use Rattle.std.specs.List.{All, AllPairs}
+use Rattle.std.proofs.Common.{refl, arith, sym, subst, List}
+use Rattle.std.specs.List.{All}
 use Rattle.std.proofs.lemmas.Bool.{false≢true}
 use Rattle.wt_value.specs.Values.{Tuple}
 use Rattle.wt_schema.specs.Satisfying.{Differ}
-use Rattle.wt_schema.proofs.Pairs.{pairs_from, pairs_more, pairs_all}
+use Rattle.wt_schema.proofs.Pairs.{pairs_from, pairs_more}
 use Rattle.wt_schema.proofs.satisfying.differ.Goals as goal
 
 pub returns-then-not-differs_from_all : goal.returns-then-not-differs_from_all

@@ -1,4 +1,4 @@
-use Rattle.std.proofs.Common.{◌≡◌, ◌∙◌, ap, sym}
+use Rattle.std.proofs.Common.{◌∙◌, ap, sym}
 use Rattle.wt_ast.specs.Tree.{conditions_tree, cond_then, condition_tree}
 use Rattle.wt_ast.proofs.Lists.{before, before_none, before_last}
 use Rattle.wt_ast.proofs.tree.Conditions.from_vec.Goals as goal

@@ -1,7 +1,7 @@
-use Rattle.std.proofs.Common.{◌≡◌, ◌∙◌, arith, sym, ap, length, subst, List}
+use Rattle.std.proofs.Common.{◌≡◌, ◌∙◌, sym, ap, length, subst, List}
 use Rattle.wt_value.specs.Values.{Tuple}
 use Rattle.wt_schema.specs.declared.schema.Table.{Table}
-use Rattle.wt_schema.specs.Satisfying.{Satisfies, AllHold}
+use Rattle.wt_schema.specs.Satisfying.{AllHold}
 use Rattle.wt_schema.proofs.schema.Schema.satisfies.Goals as goal
 
 same : (tables ts : List Table) (base bs : List (List Tuple)) → ts ≡ tables → bs ≡ base → AllHold ts bs → AllHold tables base

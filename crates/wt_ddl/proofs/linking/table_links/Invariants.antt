@@ -1,0 +1,13 @@
+use Rattle.std.proofs.Common.{◌≡◌, ◌-◌, ◌≤◌, length, drop, []}
+use Rattle.wt_ddl.specs.Linking.{link_one}
+use Rattle.wt_ddl.specs.Settling.{in_turn}
+use Rattle.wt_ddl.proofs.linking.table_links.Given as goal
+
+abbrev pub invariant-references : goal.invariant-references
+invariant-references l = record {
+  exact : in_turn (link_one l.tables l.columns) l.done (drop l.i l.open) ≡ in_turn (link_one l.tables l.columns) [] l.open;
+  within : l.i ≤ length l.open;
+}
+
+abbrev pub decreases-references : goal.decreases-references
+decreases-references l = length l.open - l.i

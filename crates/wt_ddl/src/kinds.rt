@@ -1,0 +1,78 @@
+//! The type of a column.
+ghost use Rattle.std.specs.Prelude.{◌≡◌, ◌≤◌, length, IfOk};
+ghost use Rattle.wt_ddl.specs.Reading as spec;
+
+use crate::fault::{DdlError, DdlFault};
+use crate::names::{close, word};
+use crate::rest::{Rest, Text, at_open, at_some_word};
+use wt_lex::{LexFault, TokenKind};
+use wt_schema::ColKind;
+
+#[tactic(auto, unfolding(crate::specs::Reading::number))]
+fn number(text: &Text, rest: &Rest) -> Result<usize, DdlError>
+    ensures exact { spec.Takes result (spec.number text.now rest.now) }
+    ensures one { IfOk result (λ n. (n ≡ 1) × (1 ≤ length rest.now)) }
+{
+    let Some(token) = rest.first() else {
+        return Err(text.no(DdlFault::Syntax, rest));
+    };
+    match token.kind {
+        TokenKind::Number(9_223_372_036_854_775_808) => Err(DdlError::Lex(
+            LexFault::NumberRange,
+            token.start,
+        )),
+        TokenKind::Number(_) => Ok(1),
+        _ => Err(DdlError::Fault(DdlFault::Syntax, token.start)),
+    }
+}
+
+// The width in parentheses that may stand behind a text type.
+#[tactic(auto, unfolding(crate::specs::Reading::width))]
+fn width(text: &Text, rest: &Rest) -> Result<(ColKind, usize), DdlError>
+    ensures exact { spec.Gives result (spec.width text.now rest.now) }
+    ensures within { IfOk result (λ x. x.1 ≤ length rest.now) }
+{
+    if !at_open(rest) {
+        return Ok((ColKind::Text, 0));
+    }
+    let a = rest.after(1);
+    let n = number(text, &a)?;
+    let m = close(text, &a.after(n))?;
+    Ok((ColKind::Text, 1 + n + m))
+}
+
+fn at_whole(text: &Text, rest: &Rest) -> bool
+    ensures { result ≡ spec.at_whole text.now rest.now }
+{
+    text.at_word(rest, b"integer")
+        || text.at_word(rest, b"int")
+        || text.at_word(rest, b"bigint")
+        || text.at_word(rest, b"smallint")
+}
+
+#[tactic(auto, unfolding(crate::specs::Reading::kind))]
+pub(crate) fn kind(text: &Text, rest: &Rest) -> Result<(ColKind, usize), DdlError>
+    ensures exact { spec.Gives result (spec.kind text.now rest.now) }
+    ensures within { IfOk result (λ x. x.1 ≤ length rest.now) }
+{
+    if at_whole(text, rest) {
+        return Ok((ColKind::Int, 1));
+    }
+    if text.at_word(rest, b"text") {
+        return Ok((ColKind::Text, 1));
+    }
+    if text.at_word(rest, b"varchar") {
+        let (kind, n) = width(text, &rest.after(1))?;
+        return Ok((kind, 1 + n));
+    }
+    if text.at_word(rest, b"character") {
+        let a = rest.after(1);
+        let n = word(text, &a, b"varying")?;
+        let (kind, m) = width(text, &a.after(n))?;
+        return Ok((kind, 1 + n + m));
+    }
+    if at_some_word(rest) {
+        return Err(text.no(DdlFault::UnsupportedType, rest));
+    }
+    Err(text.no(DdlFault::Syntax, rest))
+}

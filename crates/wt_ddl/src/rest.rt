@@ -1,0 +1,163 @@
+//! The tokens that are left of a text, and what stands at their front.
+ghost use Rattle.std.specs.Prelude.{◌≡◌, ◌≤◌, ◌<◌, ◌^◌, length, drop, true};
+ghost use Rattle.wt_ddl.specs.Fronts as spec;
+
+use crate::fault::{DdlError, DdlFault};
+use std::marker::Model;
+use wt_lex::{Sym, Token, TokenKind, Tokens, is_word};
+
+/// The tokens from a place on.
+#[derive(Drop)]
+pub(crate) struct Rest<'a> {
+    tokens: &'a Tokens,
+    at: usize,
+}
+
+impl<'a> Model for Rest<'a> {
+    ghost use Rattle.std.specs.Prelude.{List, drop, length, ◌≤◌};
+    ghost use Rattle.wt_lex.specs.declared.token.Token.{Token};
+
+    ghost Value = { List Token };
+
+    ghost view = { λ r. drop r.at r.tokens.now };
+
+    ghost invariant = { λ r. r.at ≤ length r.tokens.now };
+}
+
+impl<'a> Rest<'a> {
+    pub(crate) fn new(tokens: &'a Tokens) -> Rest<'a>
+        ensures { result ≡ tokens.now }
+    {
+        Rest { tokens, at: 0 }
+    }
+
+    // The tokens behind the first n.
+    pub(crate) fn after(&self, n: usize) -> Rest<'a>
+        ensures value { result ≡ drop n self.now }
+        ensures small { length self.now < 2 ^ 64 }
+    {
+        let left = self.tokens.len() - self.at;
+        Rest {
+            tokens: self.tokens,
+            at: self.at + n.min(left),
+        }
+    }
+
+    pub(crate) fn first(&self) -> Option<Token>
+        ensures { result ≡ spec.first self.now }
+    {
+        if self.at < self.tokens.len() {
+            Some(self.tokens.get(self.at))
+        } else {
+            None
+        }
+    }
+}
+
+pub(crate) fn is_end(rest: &Rest) -> bool
+    ensures { result ≡ spec.is_end rest.now }
+{
+    rest.first().is_none()
+}
+
+pub(crate) fn at_open(rest: &Rest) -> bool
+    ensures { result ≡ spec.at_kind spec.is_open rest.now }
+{
+    match rest.first() {
+        Some(token) => matches!(token.kind, TokenKind::Symbol(Sym::Open)),
+        None => false,
+    }
+}
+
+pub(crate) fn at_close(rest: &Rest) -> bool
+    ensures { result ≡ spec.at_kind spec.is_close rest.now }
+{
+    match rest.first() {
+        Some(token) => matches!(token.kind, TokenKind::Symbol(Sym::Close)),
+        None => false,
+    }
+}
+
+pub(crate) fn at_comma(rest: &Rest) -> bool
+    ensures { result ≡ spec.at_kind spec.is_comma rest.now }
+{
+    match rest.first() {
+        Some(token) => matches!(token.kind, TokenKind::Symbol(Sym::Comma)),
+        None => false,
+    }
+}
+
+pub(crate) fn at_semi(rest: &Rest) -> bool
+    ensures { result ≡ spec.at_kind spec.is_semi rest.now }
+{
+    match rest.first() {
+        Some(token) => matches!(token.kind, TokenKind::Symbol(Sym::Semi)),
+        None => false,
+    }
+}
+
+pub(crate) fn at_some_word(rest: &Rest) -> bool
+    ensures { result ≡ spec.at_kind spec.is_some_word rest.now }
+{
+    match rest.first() {
+        Some(token) => matches!(token.kind, TokenKind::Word),
+        None => false,
+    }
+}
+
+/// The bytes of a text that has tokens.
+#[derive(Drop)]
+pub(crate) struct Text<'a> {
+    bytes: &'a [u8],
+}
+
+impl<'a> Model for Text<'a> {
+    ghost use Rattle.std.specs.Prelude.{List, ℕ, length, ◌≤◌, ◌^◌};
+
+    ghost Value = { List ℕ };
+
+    ghost view = { λ t. t.bytes.now };
+
+    ghost invariant = { λ t. length t.bytes.now ≤ 2 ^ 24 };
+}
+
+impl<'a> Text<'a> {
+    pub(crate) fn new(bytes: &'a [u8]) -> Text<'a>
+        requires { length bytes.now ≤ 2 ^ 24 }
+        ensures { result ≡ bytes.now }
+    {
+        Text { bytes }
+    }
+
+    pub(crate) fn bytes(&self) -> &'a [u8]
+        ensures { result.now ≡ self.now }
+    {
+        self.bytes
+    }
+
+    // The place of the first token, or the text's length.
+    pub(crate) fn place(&self, rest: &Rest) -> u32
+        ensures { result ≡ spec.place self.now rest.now }
+    {
+        match rest.first() {
+            Some(token) => token.start,
+            None => self.bytes.len() as u32,
+        }
+    }
+
+    // Whether the first token is this word.
+    pub(crate) fn at_word(&self, rest: &Rest, word: &[u8]) -> bool
+        ensures { result ≡ spec.at_word self.now word.now rest.now }
+    {
+        match rest.first() {
+            Some(token) => is_word(self.bytes, &token, word),
+            None => false,
+        }
+    }
+
+    pub(crate) fn no(&self, fault: DdlFault, rest: &Rest) -> DdlError
+        ensures { result ≡ DdlError.Fault fault (spec.place self.now rest.now) }
+    {
+        DdlError::Fault(fault, self.place(rest))
+    }
+}

@@ -3,6 +3,6 @@ pub mod Putting
 pub mod Files
 pub mod LinesOf
 pub mod StatementLines
-pub mod RuleLists
+pub mod RuleLines
 pub mod Statuses
 pub mod QueryLaws

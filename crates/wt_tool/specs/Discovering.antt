@@ -1,56 +1,28 @@
 -- What `discover` answers: the file of the rules of its bounds.
-use Rattle.std.specs.Prelude.{◌≡◌, ℕ, ◌+◌, ◌-◌, ◌^◌, ◌⊎◌, min, List, [], ◌∷◌, ◌++◌, length, map, take, Result, Ok, Err}
+use Rattle.std.specs.Prelude.{◌≡◌, ℕ, ◌+◌, ◌-◌, ◌^◌, ◌⊎◌, min, List, [], ◌∷◌, ◌++◌, take, Result, Ok, Err}
 use Rattle.std.specs.Io.KnownBytes.{append_known}
-use Rattle.std.specs.List.{flat_map}
 use Rattle.std.specs.declared.option.Option.{Option}
-use Rattle.wt_constraint.specs.declared.set.AtomSet.{AtomSet}
-use Rattle.wt_form.specs.Relaxed.{IsRule}
+use Rattle.wt_discover.specs.Files.{AreAllLines, IsRuleFile}
 use Rattle.wt_pair.specs.declared.Bounds.{Bounds}
 use Rattle.wt_pair.specs.Candidates.{pairs_of}
 use Rattle.wt_prover.specs.SideTowers.{IsTower}
-use Rattle.wt_relax.specs.SetLists.{AreThose, Ascending}
-use Rattle.wt_rule.specs.Texts.{end_line, head_line, line_of}
+use Rattle.wt_rule.specs.Texts.{head_line}
 use Rattle.wt_symbol.specs.Lawful.{IsLawful}
 use Rattle.wt_symbol.specs.Sides.{PairTree}
 use Rattle.wt_tool.specs.declared.stop.Stop.{Stop}
 use Rattle.wt_tool.specs.Outcomes.{Outcome, Stops}
 
--- a pair with a set of its atoms
-pub record Found : Type 0 where
-  pub pair : PairTree
-  pub set : AtomSet
-
-abbrev pub found : PairTree → AtomSet → Found
-found p s = record { pair = p; set = s }
-
--- the rules of these pairs: pair by pair, of each the sets that are its rules, ascending as numbers
-abbrev pub AreRules : ℕ → ℕ → List PairTree → List Found → Type 0
-AreRules steps depth [] rules = rules ≡ []
-AreRules steps depth (p ∷ ps) rules = (sets : List AtomSet) × (others : List Found)
-    × AreThose (IsRule p steps depth) sets × Ascending sets × (rules ≡ map (found p) sets ++ others) × AreRules steps depth ps others
-
--- a line for each rule
-abbrev pub rule_lines : List Found → List ℕ
-rule_lines rules = flat_map (λ rule. line_of rule.pair rule.set) rules
-
--- a number that stands still at the greatest one of 64 bits
-abbrev pub counted : ℕ → ℕ
-counted n = min (2 ^ 64 - 1) n
-
--- the whole file: the head, a line for each rule, and the end with their number
-abbrev pub file_text : ℕ → List Found → List ℕ
-file_text steps rules = head_line steps ++ (rule_lines rules ++ end_line (counted (length rules)))
-
--- the file of the rules of all pairs
+-- the whole file: the head, a line for each rule of each pair of the bounds in order, and the end
 abbrev pub IsWhole : Bounds → Outcome → Type 0
-IsWhole b o = (rules : List Found) × AreRules b.steps b.depth (pairs_of b) rules × (o ≡ record { status = 0; text = file_text b.steps rules })
+IsWhole b o = IsRuleFile b.steps b.depth (pairs_of b) o.text × (o.status ≡ 0)
 
--- the head and the lines of the rules of the first pairs, of a run that ends before the last pair: such a run is not done
+-- the head and the lines of the rules of the first pairs: what a run may have come to that ends before the last pair. Such a run is
+-- not done, so its status is none of a run that is.
 abbrev pub IsPart : Bounds → Outcome → Type 0
-IsPart b o = (n : ℕ) × (rules : List Found) × AreRules b.steps b.depth (take n (pairs_of b)) rules
-    × (o ≡ record { status = 6; text = head_line b.steps ++ rule_lines rules })
+IsPart b o = (n : ℕ) × (lines : List ℕ) × (count : ℕ) × AreAllLines b.steps b.depth (take n (pairs_of b)) lines count
+    × (o ≡ record { status = 6; text = head_line b.steps ++ lines })
 
--- a run is done with the whole file, or it ends early within a part of it
+-- a run is done with the whole file, or it ends early within the lines of some first pairs
 abbrev pub IsDiscovered : Bounds → Outcome → Type 0
 IsDiscovered b o = IsWhole b o ⊎ IsPart b o
 
@@ -66,9 +38,18 @@ pub record IsTowerPair (p : PairTree) : Type 0 where
 abbrev pub HasTowerLetters : Bounds → Type 0
 HasTowerLetters b = (b.ops.0 ≡ 2) ⊎ (b.ops.0 ≡ 32) ⊎ (b.ops.0 ≡ 34)
 
--- lines of the rules of these pairs were put, and their number added; or a stop, within the lines of the first pairs
+-- a number that stands still at the greatest one of 64 bits
+abbrev pub counted : ℕ → ℕ
+counted n = min n (2 ^ 64 - 1)
+
+-- the lines of the rules of these pairs were put, and their number was added; or a stop within the lines of the first of them
 abbrev pub PutsRules : ℕ → ℕ → List PairTree → ℕ → Type 0 → Option (List ℕ) → Option (List ℕ) → Result ℕ Stop → Type 0
 PutsRules steps depth pairs count rose old new (Ok n) =
-    (rules : List Found) × AreRules steps depth pairs rules × (new ≡ append_known old (rule_lines rules)) × (n ≡ counted (count + length rules))
+    (lines : List ℕ) × (m : ℕ) × AreAllLines steps depth pairs lines m × (new ≡ append_known old lines) × (n ≡ counted (count + m))
 PutsRules steps depth pairs count rose old new (Err stop) =
-    (k : ℕ) × (rules : List Found) × AreRules steps depth (take k pairs) rules × Stops ⊥ rose old new (rule_lines rules) stop
+    (k : ℕ) × (lines : List ℕ) × (m : ℕ) × AreAllLines steps depth (take k pairs) lines m × Stops ⊥ rose old new lines stop
+
+-- the whole run
+abbrev pub Discovers : Bounds → Type 0 → Option (List ℕ) → Option (List ℕ) → Result ℕ Stop → Type 0
+Discovers b rose old new (Ok status) = (o : Outcome) × IsWhole b o × (status ≡ o.status) × (new ≡ append_known old o.text)
+Discovers b rose old new (Err stop) = (o : Outcome) × IsDiscovered b o × Stops ⊥ rose old new o.text stop

@@ -1,0 +1,13 @@
+use Rattle.std.proofs.Common.{◌≡◌, ◌+◌, ◌≤◌, ℕ, List, map, take}
+use Rattle.std.specs.Io.KnownBytes.{append_known}
+use Rattle.wt_symbol.specs.Sides.{pair_of}
+use Rattle.wt_discover.specs.Files.{AreAllLines}
+use Rattle.wt_tool.specs.Discovering.{counted}
+use Rattle.wt_tool.proofs.RuleLines.{PutSoFar}
+use Rattle.wt_tool.proofs.discovering.put_pairs.Given as goal
+
+abbrev pub invariant-pairs : goal.invariant-pairs
+invariant-pairs g l = record {
+  so_far : PutSoFar l.bounds.steps l.bounds.depth (take l.pair-index (map pair_of l.pairs)) l.before (g.K.Sink.written l.fn.sink) (g.K.Sink.written l.sink) l.count;
+  later : g.K.Sink.faults l.fn.sink ≤ g.K.Sink.faults l.sink;
+}

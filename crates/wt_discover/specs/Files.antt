@@ -1,6 +1,7 @@
 -- The rule file of a list of pairs.
 use Rattle.std.specs.Prelude.{ℕ, ◌+◌, ◌-◌, ◌^◌, ◌≡◌, min, List, [], ◌∷◌, ◌++◌, length}
 use Rattle.std.specs.List.{flat_map}
+use Rattle.std.specs.Int.{bit_at}
 use Rattle.wt_symbol.specs.Sides.{PairTree}
 use Rattle.wt_constraint.specs.declared.set.AtomSet.{AtomSet}
 use Rattle.wt_form.specs.Relaxed.{AreRules}
@@ -26,3 +27,10 @@ pub record IsRuleFile (steps depth : ℕ) (pairs : List PairTree) (text : List �
   pub count : ℕ
   pub are : AreAllLines steps depth pairs lines count
   pub is : text ≡ head_line steps ++ (lines ++ end_line (min count (2 ^ 64 - 1)))
+
+-- the letters of a set of operators are F and D alone
+pub record HasOnlyFiltersAndDedups (ops : ℕ) : Type 0 where
+  pub no_proj : bit_at ops 0 ≡ 0
+  pub no_inner_join : bit_at ops 2 ≡ 0
+  pub no_left_join : bit_at ops 3 ≡ 0
+  pub no_in_sub : bit_at ops 4 ≡ 0

@@ -1,3 +1,4 @@
 pub mod OneFile
 pub mod TreesKeep
-pub mod TowerPairs
+pub mod TowerShapes
+pub mod Counted

@@ -1,4 +1,4 @@
--- Pairs over filters and dedups alone have towers for sides.
+-- Templates over filters and dedups alone are towers.
 use Rattle.std.proofs.Common.{ℕ, ◌≡◌, ◌==◌, Bool, true, false, List, [], ◌∷◌, ap, subst, sym}
 use Rattle.std.specs.Prelude.{if◌then◌else◌}
 use Rattle.std.specs.Int.{bit_at}
@@ -10,7 +10,7 @@ use Rattle.wt_discover.proofs.TreesKeep.{trees_of_sizes_keep}
 letter_off : {X : Type 0} (ops letter : ℕ) (xs : List X) → bit_at ops letter ≡ 0 → if_letter ops letter xs ≡ []
 letter_off ops letter xs h = ap (λ b. if b == 1 then xs else []) h
 
-each_letter : {X : Type 0} (P : X → Type 0) (ops letter : ℕ) (xs : List X) → Each P xs → Each P (if_letter ops letter xs)
+pub each_letter : {X : Type 0} (P : X → Type 0) (ops letter : ℕ) (xs : List X) → Each P xs → Each P (if_letter ops letter xs)
 each_letter P ops letter xs each = go (bit_at ops letter == 1)
   where
     go : (b : Bool) → Each P (if b then xs else [])
@@ -27,7 +27,7 @@ IsTowerShape (inner_join t u) = ⊥
 IsTowerShape (left_join t u) = ⊥
 IsTowerShape (in_sub t u) = ⊥
 
-no_variant : {X : Type 0} (P : X → Type 0) (ops letter : ℕ) (xs : List X) → bit_at ops letter ≡ 0 → Each P (if_letter ops letter xs)
+pub no_variant : {X : Type 0} (P : X → Type 0) (ops letter : ℕ) (xs : List X) → bit_at ops letter ≡ 0 → Each P (if_letter ops letter xs)
 no_variant P ops letter xs h = subst (Each P) (sym (letter_off ops letter xs h)) tt
 
 pub templates_are_towers : (ops most : ℕ) → HasOnlyFiltersAndDedups ops → Each IsTowerShape (templates ops most)

@@ -1,1 +1,4 @@
 pub mod OneFile
+pub mod TreesKeep
+pub mod TowerShapes
+pub mod Counted

@@ -1,13 +1,13 @@
 //! The lines of the rules of a pair, as a rule file has them.
 #![tactic(auto)]
 
-ghost use Rattle.std.specs.Prelude.{◌≡◌, ◌++◌, [], ℕ, List, IfOk, OnOk, length};
+ghost use Rattle.std.specs.Prelude.{◌≡◌, ◌++◌, [], ℕ, List, All, map, IfOk, OnOk, length};
 ghost use Rattle.std.specs.List.{flat_map};
 ghost use Rattle.wt_symbol.specs.Sides.{tree_of, pair_of, PairTree};
 ghost use Rattle.wt_symbol.specs.Lawful.{IsLawful};
 ghost use Rattle.wt_prover.specs.SideTowers.{IsTower};
 ghost use Rattle.wt_rule.specs.Texts.{line_of};
-ghost use Rattle.wt_discover.specs.Files.{AreLines, IsRuleFile};
+ghost use Rattle.wt_discover.specs.Files.{AreLines, AreCounted, HasTowers, IsRuleFile};
 
 use std::alloc::{AllocError, Global};
 use wt_constraint::AtomSet;
@@ -68,6 +68,32 @@ pub fn rule_lines(
     Ok(RuleLines {
         text: Bytes::from_vec(text),
         count: sets.len() as u64,
+    })
+}
+
+/// The lines of the rules of some pairs, pair after pair, and their number as far as 64 bits go.
+///
+/// The pairs' sides have only inputs, filters and dedups.
+pub fn lines_of_pairs(
+    alloc: Global,
+    pairs: &[Pair],
+    depth: u32,
+    steps: u32,
+) -> Result<RuleLines, AllocError>
+    requires lawful { All (λ p. IsLawful (pair_of p)) pairs.now }
+    requires towers { All (λ p. HasTowers (pair_of p)) pairs.now }
+    ensures { IfOk result (λ lines. AreCounted steps depth (map pair_of pairs.now) lines.text lines.count) }
+{
+    let mut text = Vec::new(alloc);
+    let mut count = 0u64;
+    for pair in pairs {
+        let lines = rule_lines(alloc, pair, depth, steps)?;
+        text.extend_from_slice(lines.text.as_slice())?;
+        count = count.saturating_add(lines.count);
+    }
+    Ok(RuleLines {
+        text: Bytes::from_vec(text),
+        count,
     })
 }
 

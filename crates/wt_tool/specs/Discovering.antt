@@ -1,14 +1,11 @@
 -- What `discover` answers: the file of the rules of its bounds.
-use Rattle.std.specs.Prelude.{◌≡◌, ℕ, ◌+◌, ◌-◌, ◌^◌, ◌⊎◌, min, List, [], ◌∷◌, ◌++◌, take, Result, Ok, Err}
+use Rattle.std.specs.Prelude.{◌≡◌, ℕ, ◌⊎◌, List, ◌++◌, take, Result, Ok, Err}
 use Rattle.std.specs.Io.KnownBytes.{append_known}
 use Rattle.std.specs.declared.option.Option.{Option}
-use Rattle.wt_discover.specs.Files.{AreAllLines, IsRuleFile}
-use Rattle.wt_pair.specs.declared.Bounds.{Bounds}
+use Rattle.wt_discover.specs.Files.{AreAllLines, AreCounted, IsRuleFile}
+use Rattle.wt_pair.specs.declared.bounds.Bounds.{Bounds}
 use Rattle.wt_pair.specs.Candidates.{pairs_of}
-use Rattle.wt_prover.specs.SideTowers.{IsTower}
 use Rattle.wt_rule.specs.Texts.{head_line}
-use Rattle.wt_symbol.specs.Lawful.{IsLawful}
-use Rattle.wt_symbol.specs.Sides.{PairTree}
 use Rattle.wt_tool.specs.declared.stop.Stop.{Stop}
 use Rattle.wt_tool.specs.Outcomes.{Outcome, Stops}
 
@@ -28,26 +25,11 @@ IsDiscovered b o = IsWhole b o ⊎ IsPart b o
 
 -- The same while the command runs.
 
--- a lawful pair whose sides have only inputs, filters and dedups
-pub record IsTowerPair (p : PairTree) : Type 0 where
-  pub lawful : IsLawful p
-  pub source : IsTower p.source
-  pub dest : IsTower p.dest
-
--- the letters are F, D, or both
-abbrev pub HasTowerLetters : Bounds → Type 0
-HasTowerLetters b = (b.ops.0 ≡ 2) ⊎ (b.ops.0 ≡ 32) ⊎ (b.ops.0 ≡ 34)
-
--- a number that stands still at the greatest one of 64 bits
-abbrev pub counted : ℕ → ℕ
-counted n = min n (2 ^ 64 - 1)
-
--- the lines of the rules of these pairs were put, and their number was added; or a stop within the lines of the first of them
-abbrev pub PutsRules : ℕ → ℕ → List PairTree → ℕ → Type 0 → Option (List ℕ) → Option (List ℕ) → Result ℕ Stop → Type 0
-PutsRules steps depth pairs count rose old new (Ok n) =
-    (lines : List ℕ) × (m : ℕ) × AreAllLines steps depth pairs lines m × (new ≡ append_known old lines) × (n ≡ counted (count + m))
-PutsRules steps depth pairs count rose old new (Err stop) =
-    (k : ℕ) × (lines : List ℕ) × (m : ℕ) × AreAllLines steps depth (take k pairs) lines m × Stops ⊥ rose old new lines stop
+-- the lines of the rules of all pairs were put, and this is their number; or a stop within the lines of the first of them
+abbrev pub PutsRules : Bounds → Type 0 → Option (List ℕ) → Option (List ℕ) → Result ℕ Stop → Type 0
+PutsRules b rose old new (Ok n) = (lines : List ℕ) × AreCounted b.steps b.depth (pairs_of b) lines n × (new ≡ append_known old lines)
+PutsRules b rose old new (Err stop) =
+    (k : ℕ) × (lines : List ℕ) × (count : ℕ) × AreAllLines b.steps b.depth (take k (pairs_of b)) lines count × Stops ⊥ rose old new lines stop
 
 -- the whole run
 abbrev pub Discovers : Bounds → Type 0 → Option (List ℕ) → Option (List ℕ) → Result ℕ Stop → Type 0

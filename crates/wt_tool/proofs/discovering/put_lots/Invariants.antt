@@ -6,7 +6,7 @@ use Rattle.wt_tool.proofs.discovering.put_lots.Given as goal
 abbrev pub invariant-lots : goal.invariant-lots
 invariant-lots g l = record {
   bounds : l.pairs.bounds ≡ l.bounds;
-  so_far : PutSoFar l.bounds.steps l.bounds.depth (take l.pairs.first (pairs_of l.bounds)) 0 (g.K.Sink.written l.fn.sink) (g.K.Sink.written l.sink) l.count;
+  so_far : PutSoFar l.bounds.steps l.bounds.depth (take l.pairs.first (pairs_of l.bounds)) (g.K.Sink.written l.fn.sink) (g.K.Sink.written l.sink) l.count;
   later : g.K.Sink.faults l.fn.sink ≤ g.K.Sink.faults l.sink;
 }
 

@@ -1,0 +1,62 @@
+use Rattle.std.proofs.Common.{◌≡◌, ◌+◌, ◌-◌, ◌^◌, ◌≤◌, ◌<◌, ◌++◌, min, length, take, map, arith, rules, ap, sym, subst}
+use Rattle.std.specs.Io.KnownBytes.{append_known}
+use Rattle.std.proofs.lemmas.Result.{err_from_is_err_and}
+use Rattle.wt_discover.specs.Files.{AreCounted, HasOnlyFiltersAndDedups}
+use Rattle.wt_pair.specs.Candidates.{pairs_of}
+use Rattle.wt_pair.specs.Lots.{IsNextLot}
+use Rattle.wt_symbol.specs.Sides.{pair_of}
+use Rattle.wt_tool.proofs.Putting.{rose_since}
+use Rattle.wt_tool.proofs.RuleLines.{fewer_left, lot_lawful, lot_towers, next_pairs, so_far_next, stops_here, stops_in_lot}
+use Rattle.wt_tool.proofs.discovering.put_lots.Goals as goal
+
+pub returns-in_err-lot-clause-puts : goal.returns-in_err-lot-clause-puts
+returns-in_err-lot-clause-puts g c =
+    let p = err_from_is_err_and c.from_residual.result c.from_residual.ensures.1 in
+    rw (p.1, p.2) (stops_here c.args.bounds.now ⊥ c.lots.pairs.first _ _ c.lots.count c.lots.invariant.so_far)
+
+pub lines_of_pairs-requires-clause-lawful : goal.lines_of_pairs-requires-clause-lawful
+lines_of_pairs-requires-clause-lawful g c =
+    let next : IsNextLot c.lots.pairs c.next_lot.new.self c.in-Some.lot = search rules in
+    let items : c.as_slice.result.now ≡ c.in-Some.lot.pairs = search rules in
+    lot_lawful c.args.bounds.now c.requires.letters c.lots.pairs.first c.next_lot.new.self.first c.as_slice.result.now (next_pairs c.args.bounds.now c.lots.pairs c.next_lot.new.self c.in-Some.lot c.as_slice.result.now c.lots.invariant.bounds items next)
+
+pub lines_of_pairs-requires-clause-towers : goal.lines_of_pairs-requires-clause-towers
+lines_of_pairs-requires-clause-towers g c =
+    let next : IsNextLot c.lots.pairs c.next_lot.new.self c.in-Some.lot = search rules in
+    let items : c.as_slice.result.now ≡ c.in-Some.lot.pairs = search rules in
+    lot_towers c.args.bounds.now c.requires.letters c.lots.pairs.first c.next_lot.new.self.first c.as_slice.result.now (next_pairs c.args.bounds.now c.lots.pairs c.next_lot.new.self c.in-Some.lot c.as_slice.result.now c.lots.invariant.bounds items next)
+
+pub returns-in_err-lines-clause-puts : goal.returns-in_err-lines-clause-puts
+returns-in_err-lines-clause-puts g c =
+    let p = err_from_is_err_and c.from_residual-in_err-lines.result c.from_residual-in_err-lines.ensures.1 in
+    rw (p.1, p.2) (stops_here c.args.bounds.now ⊥ c.lots.pairs.first _ _ c.lots.count c.lots.invariant.so_far)
+
+pub returns-in_err-put-clause-puts : goal.returns-in_err-put-clause-puts
+returns-in_err-put-clause-puts g c =
+    let p = err_from_is_err_and c.from_residual-in_err-put.result c.from_residual-in_err-put.ensures.1 in
+    let next : IsNextLot c.lots.pairs c.next_lot.new.self c.in-Some.lot = search rules in
+    let items : c.as_slice.result.now ≡ c.in-Some.lot.pairs = search rules in
+    let text : c.as_slice-in-Some.result.now ≡ c.in_ok-lines.lines.text = search rules in
+    let together = next_pairs c.args.bounds.now c.lots.pairs c.next_lot.new.self c.in-Some.lot c.as_slice.result.now c.lots.invariant.bounds items next in
+    let are : AreCounted c.args.bounds.now.steps c.args.bounds.now.depth (map pair_of c.as_slice.result.now) c.as_slice-in-Some.result.now c.in_ok-lines.lines.count = rw text c.in_ok-lines.ensures in
+    rw (p.1, p.2) (stops_in_lot c.args.bounds.now _ _ (rose_since _ _ _ c.lots.invariant.later) c.lots.pairs.first c.next_lot.new.self.first (map pair_of c.as_slice.result.now) _ _ _ c.lots.count
+    c.in_ok-lines.lines.count c.as_slice-in-Some.result.now _ together c.lots.invariant.so_far are c.in_err-put.ensures.puts)
+
+pub lots-smaller : goal.lots-smaller
+lots-smaller g c =
+    let next : IsNextLot c.lots.pairs c.next_lot.new.self c.in-Some.lot = search rules in
+    fewer_left c.args.bounds.now c.lots.pairs c.next_lot.new.self c.in-Some.lot _ c.in-Some.is c.in_ok-lot.ensures.end c.lots.invariant.bounds next
+
+pub lots-preserved : goal.lots-preserved
+lots-preserved g c =
+    let next : IsNextLot c.lots.pairs c.next_lot.new.self c.in-Some.lot = search rules in
+    let items : c.as_slice.result.now ≡ c.in-Some.lot.pairs = search rules in
+    let together = next_pairs c.args.bounds.now c.lots.pairs c.next_lot.new.self c.in-Some.lot c.as_slice.result.now c.lots.invariant.bounds items next in
+    let put : g.K.Sink.written c.put.new.sink ≡ append_known (g.K.Sink.written c.lots.sink) c.in_ok-lines.lines.text = search rules in
+    let count : c.saturating_add-count.result ≡ min (c.lots.count + c.in_ok-lines.lines.count) (2 ^ 64 - 1) = search rules in
+    record {
+      bounds = search rules;
+      so_far = so_far_next c.args.bounds.now.steps c.args.bounds.now.depth _ (map pair_of c.as_slice.result.now) _ _ _ _ c.in_ok-lines.lines.text c.lots.count c.in_ok-lines.lines.count _ together count c.lots.invariant.so_far
+          c.in_ok-lines.ensures put;
+      later = search rules;
+    }

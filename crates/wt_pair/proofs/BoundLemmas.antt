@@ -1,26 +1,24 @@
 -- How many templates, destinations and pairs there are at most within the limits.
-use Rattle.std.proofs.Common.{◌≡◌, ℕ, zero, suc, ◌+◌, ◌-◌, ◌*◌, ◌^◌, ◌<◌, ◌≤◌, Bool, true, false, List, [], ◌∷◌, ◌++◌, map, length, Option, Some, None, refl, sym, ap, ◌∙◌, subst, arith, length-append, add-suc, suc-add, le_trans, zero-add, add-zero}
-use Rattle.std.specs.Prelude.{filter, slice_get, ◌==◌, if◌then◌else◌}
+use Rattle.std.proofs.Common.{◌≡◌, ℕ, zero, suc, ◌+◌, ◌*◌, ◌^◌, ◌<◌, ◌≤◌, Bool, true, false, List, [], ◌∷◌, map, length, refl, ap, arith, length-append}
+use Rattle.std.specs.Prelude.{filter, ◌==◌, if◌then◌else◌}
 use Rattle.std.specs.Int.{bit_at}
 use Rattle.std.specs.List.{flat_map}
-use Rattle.std.proofs.lemmas.Grind.{common_steps}
 use Rattle.std.proofs.lemmas.List.{length-map}
 use Rattle.std.proofs.lemmas.Nat.{mul-le}
 use Rattle.std.proofs.lemmas.Nat.Bits.{bit_at-lt}
 use Rattle.wt_bag.specs.Bags.{Each}
 use Rattle.wt_bag.proofs.EachLaws.{each_append, each_map, each_flat_map, each_for, each_implies}
-use Rattle.wt_bag.proofs.UniqueLists.{each_get}
 use Rattle.wt_template.specs.declared.place.Variants.{Variants}
-use Rattle.wt_template.specs.Order.{Maker, of_one, of_two, numbers_from, splits_from, over_one, over_two, under_root, trees}
+use Rattle.wt_template.specs.Order.{of_one, numbers_from, splits_from, over_two, under_root, trees}
 use Rattle.wt_template.specs.Places.{pairs_before, number_of_trees}
 use Rattle.wt_template.specs.Shapes.{Shape, size_of, if_letter, templates, templates_of_size}
-use Rattle.wt_template.specs.Shapes.{input as any_input, proj as any_proj, filtered as any_filtered, inner_join as any_inner_join, left_join as any_left_join, in_sub as any_in_sub, dedup as any_dedup, makers as any_makers, variants_of as any_variants_of}
+use Rattle.wt_template.specs.Shapes.{input as any_input, proj as any_proj, filtered as any_filtered, inner_join as any_inner_join, left_join as any_left_join, in_sub as any_in_sub, dedup as any_dedup, makers as any_makers}
 use Rattle.wt_template.proofs.OrderLemmas.{trees-bound}
 use Rattle.wt_template.proofs.RootLemmas.{AreCounts, length_six}
 use Rattle.wt_symbol.specs.Sides.{SideTree, PairTree}
 use Rattle.wt_pair.specs.declared.bounds.Bounds.{Bounds}
 use Rattle.wt_pair.specs.declared.source.Symbols.{Symbols}
-use Rattle.wt_pair.specs.Candidates.{makers, leaf_count, list_count, pred_count, source_of, anchorings, destinations_over, destinations, is_lawful, lawful_pairs, pairs_of_anchoring, pairs_of_template, pairs_of}
+use Rattle.wt_pair.specs.Candidates.{makers, leaf_count, list_count, pred_count, source_of, anchorings, destinations_over, destinations, is_lawful, pairs_of_anchoring, pairs_of_template, pairs_of}
 use Rattle.wt_pair.specs.Dests.{destinations_of_size, variants_of}
 use Rattle.wt_pair.specs.Walk.{symbols_of, IsSmall}
 use Rattle.wt_pair.proofs.AnchorLemmas.{small_power, length-anchorings, length-numbers}

@@ -1,7 +1,7 @@
 -- The pairs of given bounds, in order: the lawful ones among all candidates.
-use Rattle.std.specs.Prelude.{◌≡◌, ℕ, zero, suc, ◌+◌, ◌≤◌, Bool, List, [], ◌∷◌, map, filter, is_none}
+use Rattle.std.specs.Prelude.{ℕ, zero, suc, ◌+◌, ◌≤◌, Bool, List, [], ◌∷◌, map, filter, is_none}
 use Rattle.std.specs.List.{flat_map}
-use Rattle.wt_template.specs.Order.{Maker, of_one, of_two, numbers_from, trees, trees_of_sizes}
+use Rattle.wt_template.specs.Order.{Maker, of_one, of_two, numbers_from, trees_of_sizes}
 use Rattle.wt_template.specs.Shapes.{Shape, if_letter, templates}
 use Rattle.wt_template.specs.Shapes.{input as any_input, proj as any_proj, filtered as any_filtered, inner_join as any_inner_join, left_join as any_left_join, in_sub as any_in_sub, dedup as any_dedup}
 use Rattle.wt_symbol.specs.Sides.{SideTree, input, proj, filtered, inner_join, left_join, in_sub, dedup, PairTree}

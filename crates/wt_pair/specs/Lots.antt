@@ -1,8 +1,6 @@
 -- Lots of pairs in a row.
-use Rattle.std.specs.Prelude.{◌≡◌, ℕ, ◌+◌, ◌≤◌, ◌++◌, List, length, map, take, drop}
-use Rattle.wt_symbol.specs.Sides.{PairTree, pair_of}
-use Rattle.wt_symbol.specs.declared.side.Pair.{Pair}
-use Rattle.wt_pair.specs.declared.bounds.Bounds.{Bounds}
+use Rattle.std.specs.Prelude.{◌≡◌, ◌+◌, ◌++◌, length, map, take, drop}
+use Rattle.wt_symbol.specs.Sides.{pair_of}
 use Rattle.wt_pair.specs.declared.lot.Lot.{Lot}
 use Rattle.wt_pair.specs.Candidates.{pairs_of}
 use Rattle.wt_pair.specs.Walk.{Progress}

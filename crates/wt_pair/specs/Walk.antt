@@ -1,11 +1,11 @@
 -- What is left of the pairs from a place on. A place is a template's number, the number of an anchoring of its lists, and the number of a destination.
-use Rattle.std.specs.Prelude.{◌≡◌, ℕ, zero, suc, ◌+◌, ◌/◌, ◌%◌, ◌^◌, ◌≤◌, List, [], ◌∷◌, ◌++◌, ◌⊎◌, length, drop}
+use Rattle.std.specs.Prelude.{◌≡◌, ℕ, zero, suc, ◌/◌, ◌%◌, ◌^◌, ◌≤◌, List, [], ◌∷◌, ◌++◌, ◌⊎◌, length, drop}
 use Rattle.std.specs.List.{flat_map}
 use Rattle.wt_template.specs.Shapes.{Shape, templates}
 use Rattle.wt_symbol.specs.Sides.{SideTree, PairTree}
 use Rattle.wt_pair.specs.declared.bounds.Bounds.{Bounds}
 use Rattle.wt_pair.specs.declared.source.Symbols.{Symbols}
-use Rattle.wt_pair.specs.Candidates.{leaf_count, list_count, pred_count, source_of, anchorings, destinations_over, lawful_pairs, pairs_of_template, pairs_of, IsWithinLimits}
+use Rattle.wt_pair.specs.Candidates.{leaf_count, list_count, pred_count, source_of, anchorings, destinations_over, lawful_pairs, pairs_of_template}
 
 -- the k-th way to anchor n lists among r leaves: the digits of k to the base r
 abbrev pub nth_anchoring : ℕ → ℕ → ℕ → List ℕ

@@ -1,4 +1,4 @@
-use Rattle.std.proofs.Common.{◌≡◌, ◌-◌, arith, rules}
+use Rattle.std.proofs.Common.{◌-◌, arith, rules}
 use Rattle.wt_symbol.specs.Sides.{tree_of}
 use Rattle.wt_pair.proofs.DestLemmas.{not_past, found_proj, found_filter, found_inner_join, found_left_join, found_in_sub, found_dedup, within_filter, within_inner_join, within_left_join, within_in_sub, counts_below, exists_below, no_operator}
 use Rattle.wt_pair.proofs.dest.+dest_of.Goals as goal

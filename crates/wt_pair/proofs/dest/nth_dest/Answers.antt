@@ -1,4 +1,4 @@
-use Rattle.std.proofs.Common.{◌≡◌, ◌+◌, ◌-◌, arith, rules, sym, refl}
+use Rattle.std.proofs.Common.{◌+◌, ◌-◌, arith, sym, refl}
 use Rattle.std.proofs.lemmas.Grind.{common_steps}
 use Rattle.wt_symbol.specs.Sides.{tree_of}
 use Rattle.wt_pair.proofs.DestLemmas.{leaf_found, past_leaves, counts_first, counts_next, exists, passed, found_now, found_later}

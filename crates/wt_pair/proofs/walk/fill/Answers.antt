@@ -1,6 +1,6 @@
 use Rattle.std.proofs.Common.{◌≡◌, map, length, inl, inr, arith, refl}
 use Rattle.std.proofs.lemmas.List.{length-map}
-use Rattle.wt_symbol.specs.Sides.{tree_of, pair_of}
+use Rattle.wt_symbol.specs.Sides.{pair_of}
 use Rattle.wt_pair.proofs.WalkLemmas.{template_next, template_passed, template_small, templates_done, must_be_done}
 use Rattle.wt_pair.proofs.walk.fill.Goals as goal
 

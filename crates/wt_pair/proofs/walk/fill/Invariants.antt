@@ -1,6 +1,6 @@
 use Rattle.std.proofs.Common.{◌≡◌, ◌-◌, ◌≤◌, ◌++◌, map, length}
 use Rattle.wt_template.specs.Shapes.{templates}
-use Rattle.wt_symbol.specs.Sides.{tree_of, pair_of}
+use Rattle.wt_symbol.specs.Sides.{pair_of}
 use Rattle.wt_pair.specs.Walk.{rest_of_pairs}
 use Rattle.wt_pair.proofs.walk.fill.Given as goal
 

@@ -1,4 +1,4 @@
-use Rattle.std.proofs.Common.{◌≡◌, ◌++◌, [], inr, refl, sym, ap, ◌∙◌, arith}
+use Rattle.std.proofs.Common.{inr, refl, arith}
 use Rattle.std.proofs.lemmas.List.{length-map}
 use Rattle.wt_symbol.specs.Sides.{tree_of, pair_of}
 use Rattle.wt_pair.proofs.WalkLemmas.{none_stand}

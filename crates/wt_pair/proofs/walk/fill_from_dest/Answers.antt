@@ -1,5 +1,4 @@
-use Rattle.std.proofs.Common.{◌≡◌, inl, inr, arith}
-use Rattle.std.proofs.lemmas.Grind.{common_steps}
+use Rattle.std.proofs.Common.{inr, arith}
 use Rattle.std.proofs.lemmas.List.{length-map}
 use Rattle.wt_symbol.specs.Sides.{tree_of, pair_of}
 use Rattle.wt_pair.proofs.WalkLemmas.{dest_within, dest_next, dests_done}

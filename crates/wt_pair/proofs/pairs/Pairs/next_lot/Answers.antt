@@ -1,5 +1,4 @@
-use Rattle.std.proofs.Common.{◌≡◌, ◌+◌, ℕ, [], map, length, refl, arith, ap, sym, false, true}
-use Rattle.std.proofs.lemmas.Grind.{common_steps}
+use Rattle.std.proofs.Common.{map, length, refl, arith, ap}
 use Rattle.std.proofs.lemmas.List.{length-map}
 use Rattle.wt_symbol.specs.Sides.{pair_of}
 use Rattle.wt_pair.specs.Candidates.{pairs_of}

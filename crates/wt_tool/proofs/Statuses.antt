@@ -1,5 +1,5 @@
 -- What the clause of a run says of its statuses one by one.
-use Rattle.std.proofs.Common.{◌≡◌, ◌≢◌, ◌∙◌, ℕ, ◌≤◌, List, ◌⊎◌, Bool, true, false, sym, cond, arith, rules}
+use Rattle.std.proofs.Common.{◌≡◌, ◌≢◌, ◌∙◌, ℕ, ◌≤◌, List, ◌⊎◌, Bool, true, false, sym, cond, subst, inl, inr, arith, rules}
 use Rattle.std.proofs.lemmas.Result.{IfOk-from_err}
 use Rattle.std.specs.Prelude.{Ok, Err, IsErr, MatchResult, Result}
 use Rattle.std.specs.Io.KnownBytes.{append_known}
@@ -7,6 +7,8 @@ use Rattle.std.specs.declared.option.Option.{Option}
 use Rattle.wt_tool.specs.declared.input.Input.{Input}
 use Rattle.wt_tool.specs.declared.words.UsageFault.{UsageFault}
 use Rattle.wt_tool.specs.Answers.{Answers, CommandOutcome, RunOutcome, usage}
+use Rattle.wt_pair.specs.declared.bounds.Bounds.{Bounds}
+use Rattle.wt_tool.specs.Discovering.{IsDiscovered}
 use Rattle.wt_tool.specs.Outcomes.{AppendsPrefix, Ends, Outcome}
 use Rattle.wt_ddl.specs.Schemas.{schema_of}
 use Rattle.wt_ddl.specs.declared.fault.DdlError.{DdlError}
@@ -16,11 +18,12 @@ use Rattle.wt_lex.specs.declared.token.LexFault.{LexFault}
 use Rattle.wt_schema.specs.declared.schema.Table.{Table}
 use Rattle.wt_tool.specs.declared.input.Input.TheVariants.{Whole, TooLong}
 use Rattle.wt_tool.specs.Rewriting.{any_refused, file_lines, is_empty_rules, not_built, rewriting, status_of, with_file, with_queries, with_rules, with_schema}
-use Rattle.wt_tool.specs.Words.{Command, Names, Rewrite, command_of}
+use Rattle.wt_tool.specs.Words.{Command, Names, Rewrite, Discover, command_of}
 
 -- what follows for the outcome holds of the outcome
 of_command : (told : List ℕ → Option (List ℕ)) (P Q : Outcome → Type 0) → ((o : Outcome) → P o → Q o) → (command : Command) → CommandOutcome told P command → CommandOutcome told Q command
 of_command told P Q f (Rewrite names) h = (h.0, h.1, h.2, h.3, f _ h.4)
+of_command told P Q f (Discover bounds) h = (h.0, h.1, f h.0 h.2)
 
 of_run : (told : List ℕ → Option (List ℕ)) (words : List (List ℕ)) (P Q : Outcome → Type 0) → ((o : Outcome) → P o → Q o) → RunOutcome told words P → RunOutcome told words Q
 of_run told words P Q f h =
@@ -62,9 +65,17 @@ rewriting_fine : (names : Names) (rules schema queries : Input) → Fine (rewrit
 rewriting_fine names rules schema queries =
     elim (is_empty_rules rules) as (λ b. Fine (cond b (with_rules names schema queries) (not_built names.rules)).status) [ true ↦ rules_fine names schema queries | false ↦ two_fine ]
 
+six_fine : Fine 6
+six_fine = (omega arith, λ h. omega arith)
+
+discovered_fine : (bounds : Bounds) (o : Outcome) → IsDiscovered bounds o → Fine o.status
+discovered_fine bounds o (inl whole) = subst Fine (sym whole.1) (lines_fine false)
+discovered_fine bounds o (inr part) = subst (λ x. Fine x.status) (sym part.4) six_fine
+
 -- what follows for every outcome of a command
 any_command : (told : List ℕ → Option (List ℕ)) (P : Outcome → Type 0) (Q : Type 0) → ((o : Outcome) → (o.status ≤ 6) × (o.status ≢ 1) → P o → Q) → (command : Command) → CommandOutcome told P command → Q
 any_command told P Q f (Rewrite names) h = f (rewriting names h.0 h.1 h.2) (rewriting_fine names h.0 h.1 h.2) h.4
+any_command told P Q f (Discover bounds) h = f h.0 (discovered_fine bounds h.0 h.1) h.2
 
 -- what follows for every outcome
 any_run : (told : List ℕ → Option (List ℕ)) (words : List (List ℕ)) (P : Outcome → Type 0) (Q : Type 0) → ((o : Outcome) → o.status ≤ 6 → P o → Q) → RunOutcome told words P → Q

@@ -4,10 +4,11 @@ use Rattle.std.specs.declared.option.Option.{Option}
 use Rattle.wt_tool.specs.declared.input.Input.{Input}
 use Rattle.wt_tool.specs.declared.words.UsageFault.{UsageFault}
 use Rattle.wt_tool.specs.declared.words.UsageFault.TheVariants.{NotBuilt}
+use Rattle.wt_tool.specs.Discovering.{IsDiscovered}
 use Rattle.wt_tool.specs.Inputs.{IsInput}
 use Rattle.wt_tool.specs.Outcomes.{Outcome, Ends}
 use Rattle.wt_tool.specs.Rewriting.{rewriting}
-use Rattle.wt_tool.specs.Words.{Names, Command, Rewrite, command_of}
+use Rattle.wt_tool.specs.Words.{Names, Command, Rewrite, Discover, command_of}
 
 -- what the three files of `rewrite` may have given
 pub record AreInputs (told : List ℕ → Option (List ℕ)) (names : Names) (rules schema queries : Input) : Type 0 where
@@ -30,6 +31,7 @@ usage fault = record { status = 1; text = codes "usage " ++ (usage_word fault ++
 -- the outcome of a command, for some inputs that its files may have given; one line a command
 abbrev pub CommandOutcome : (List ℕ → Option (List ℕ)) → (Outcome → Type 0) → Command → Type 0
 CommandOutcome told P (Rewrite names) = WithInputs told names (λ rules schema queries. P (rewriting names rules schema queries))
+CommandOutcome told P (Discover bounds) = (o : Outcome) × IsDiscovered bounds o × P o
 
 -- the outcome of a run: that of the words where they are refused, else that of their command
 abbrev pub RunOutcome : (List ℕ → Option (List ℕ)) → List (List ℕ) → (Outcome → Type 0) → Type 0

@@ -4,7 +4,7 @@ ghost use Rattle.wt_discover.specs.Files.{HasOnlyFiltersAndDedups};
 ghost use Rattle.wt_io.specs.Causes.{Rose};
 ghost use Rattle.wt_pair.specs.Candidates.{IsWithinLimits};
 ghost use Rattle.wt_tool.specs.Discovering as spec;
-ghost use Rattle.wt_tool.specs.Outcomes.{Ends};
+ghost use Rattle.wt_tool.specs.Outcomes.{Ends, Outcome};
 
 use crate::put::put;
 use crate::stop::Stop;
@@ -42,4 +42,17 @@ fn try_discover<K: Sink>(alloc: Global, bounds: &Bounds, sink: &mut K) -> Result
     let end = write_end(alloc, count)?;
     put(sink, end.as_slice())?;
     Ok(0)
+}
+
+/// Discovers the rules of bounds, and ends with the status.
+pub(crate) fn discover<K: Sink>(alloc: Global, bounds: &Bounds, sink: &mut K) -> u8
+    requires limits { IsWithinLimits bounds.now }
+    requires letters { HasOnlyFiltersAndDedups bounds.now.ops.0 }
+    ensures { (o : Outcome) × spec.IsDiscovered bounds.now o
+        × Ends ⊥ (Rose (K.faults sink.old) (K.faults sink.new)) (K.written sink.old) (K.written sink.new) o result }
+{
+    match try_discover(alloc, bounds, sink) {
+        Ok(status) => status,
+        Err(stop) => stop.status(),
+    }
 }

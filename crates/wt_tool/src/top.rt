@@ -7,6 +7,7 @@ ghost use Rattle.wt_tool.specs.Laws.{KeepsNames, KeepsRows};
 ghost use Rattle.wt_tool.specs.Outcomes.{AppendsPrefix, Ends};
 ghost use Rattle.wt_tool.specs.Words.{command_of};
 
+use crate::discovering::discover;
 use crate::put::put;
 use crate::rewriting::rewrite;
 use crate::words::{Command, UsageFault, read_words};
@@ -40,6 +41,7 @@ fn run<S: Store, K: Sink>(alloc: Global, words: &[String], store: &mut S, sink: 
 {
     match read_words(words) {
         Ok(Command::Rewrite(names)) => rewrite(alloc, &names, store, sink),
+        Ok(Command::Discover(bounds)) => discover(alloc, &bounds, sink),
         Err(fault) => refuse_words(fault, sink),
     }
 }

@@ -1,0 +1,71 @@
+-- A lot among the pairs of the bounds.
+use Rattle.std.proofs.Common.{◌≡◌, ℕ, ◌+◌, ◌≤◌, Bool, true, false, List, [], ◌++◌, map, length, take, drop, inl, inr, refl, sym, ap, ◌∙◌, arith, length-append, length-drop, length-take, append_assoc}
+use Rattle.std.proofs.lemmas.List.{append-nil, drop-drop, drop_at, take_at, take_all, take-append-drop, nil_from_length}
+use Rattle.std.proofs.lemmas.List.{length-map}
+use Rattle.wt_symbol.specs.Sides.{PairTree, pair_of}
+use Rattle.wt_symbol.specs.declared.side.Pair.{Pair}
+use Rattle.wt_pair.specs.declared.bounds.Bounds.{Bounds}
+use Rattle.wt_pair.specs.declared.walk.Cursor.{Cursor}
+use Rattle.wt_pair.specs.declared.lot.Lot.{Lot}
+use Rattle.wt_pair.specs.Candidates.{pairs_of}
+use Rattle.wt_pair.specs.Track.{IsOnTrack}
+use Rattle.wt_pair.specs.Lots.{IsNextLot}
+use Rattle.wt_pair.specs.Walk.{Fills, Progress}
+
+module _ (P had lot from rest : List PairTree) (f : ℕ) (none : had ≡ []) (begin : from ≡ drop f P) (filled : Fills 4096 had lot from rest) where
+  joined : lot ++ rest ≡ drop f P
+  joined = let pairs = rw none at filled.pairs in pairs ∙ begin
+
+  pub lot_pairs : lot ≡ take 4096 (drop f P)
+  lot_pairs =
+      rw (← joined)
+      (elim filled.full_or_done [
+        | inl full ↦ sym (take_at lot rest 4096 full)
+        | inr done ↦ rw (done, append-nil) (sym (take_all 4096 lot filled.within))
+      ])
+
+  pub lot_rest : rest ≡ drop (f + length lot) P
+  lot_rest = sym (drop_at lot rest (length lot) refl) ∙ ap (drop (length lot)) joined ∙ drop-drop (length lot) f P
+
+  module _ (within : f ≤ length P) where
+    pub lot_within : f + length lot ≤ length P
+    lot_within = omega (arith, length-append lot rest, ap length joined, length-drop f P)
+
+    pub lot_together : take (f + length lot) P ≡ take f P ++ lot
+    lot_together =
+        let whole : (take f P ++ lot) ++ rest ≡ P = append_assoc (take f P) lot rest ∙ ap (λ ys. take f P ++ ys) joined ∙ take-append-drop f P in
+        let many : length (take f P ++ lot) ≡ f + length lot = omega (arith, length-append (take f P) lot, length-take f P) in
+        ap (take (f + length lot)) (sym whole) ∙ take_at (take f P ++ lot) rest (f + length lot) many
+
+  pub not_ended : (lot ≡ [] → ⊥) → length P ≤ f → ⊥
+  not_ended some past =
+      let none : length lot ≡ 0 = omega (arith, length-append lot rest, ap length joined, length-drop f P) in
+      some (nil_from_length lot none)
+
+pub on_track : (b : Bounds) (at : Cursor) (f m n : ℕ) → m ≡ n → IsOnTrack b at (f + n) → IsOnTrack b at (f + m)
+on_track b at f m n e h = rw e h
+
+pub lot_is : (b : Bounds) (f n : ℕ) (old : Progress) (lot : Lot) (had from rest : List PairTree) → record { bounds = b; first = f } ≡ old → had ≡ [] →
+    from ≡ drop f (pairs_of b) → f ≤ length (pairs_of b) → Fills 4096 had (map pair_of lot.pairs) from rest → lot.bounds ≡ b → lot.first ≡ f → n ≡ length lot.pairs →
+    IsNextLot old (record { bounds = b; first = f + n }) lot
+lot_is b f n old lot had from rest is none begin within filled same_bounds same_first many =
+    let P = pairs_of b in
+    let count : n ≡ length (map pair_of lot.pairs) = omega (arith, many, length-map lot.pairs pair_of) in
+    rw (← is)
+    (record {
+      bounds = same_bounds;
+      first = same_first;
+      pairs = lot_pairs P had (map pair_of lot.pairs) from rest f none begin filled;
+      next = ap (λ k. f + k) many;
+      together = rw count (lot_together P had (map pair_of lot.pairs) from rest f none begin filled within);
+    })
+
+pub not_empty : (pairs : List Pair) (empty : Bool) → empty ≡ false → (pairs ≡ [] → empty ≡ true) → map pair_of pairs ≡ [] → ⊥
+not_empty pairs empty some full none =
+    let zero_length : length pairs ≡ 0 = omega (arith, length-map pairs pair_of, ap length none) in
+    let is_nil = full (nil_from_length pairs zero_length) in
+    cc
+
+pub not_the_end : (b : Bounds) (f : ℕ) (old : Progress) → record { bounds = b; first = f } ≡ old → (length (pairs_of b) ≤ f → ⊥) →
+    (true ≡ false → length (pairs_of old.bounds) ≤ old.first) × (length (pairs_of old.bounds) ≤ old.first → true ≡ false)
+not_the_end b f old is more = rw (← is) (λ h. cc, λ past. absurd (more past))

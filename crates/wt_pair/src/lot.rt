@@ -1,0 +1,11 @@
+//! Lots of pairs.
+use crate::bounds::Bounds;
+use crate::walk::PairList;
+
+/// Pairs of bounds in a row, and the number of the first of them.
+#[derive(Debug, Drop)]
+pub struct Lot {
+    pub bounds: Bounds,
+    pub first: u64,
+    pub pairs: PairList,
+}

@@ -2,3 +2,4 @@ pub mod OneFile
 pub mod TreesKeep
 pub mod TowerShapes
 pub mod Counted
+pub mod PairTowers

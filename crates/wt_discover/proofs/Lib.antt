@@ -2,4 +2,3 @@ pub mod OneFile
 pub mod TreesKeep
 pub mod TowerShapes
 pub mod Counted
-pub mod PairTowers

@@ -133,8 +133,10 @@ mod tests {
         if pair_fault(alloc, &pair)?.is_some() || !is_tower(&pair.source) || !is_tower(&pair.dest) {
             return Ok(false);
         }
-        let lines = rule_lines(alloc, &pair, 64, 8)?;
-        Ok(lines.text.as_slice() == expected.as_bytes())
+        let pairs = [pair];
+        let lines = lines_of_pairs(alloc, &pairs, 64, 8)?;
+        let count = if expected.is_empty() { 0 } else { 1 };
+        Ok(lines.text.as_slice() == expected.as_bytes() && lines.count == count)
     }
 
     #[test]

@@ -56,7 +56,7 @@ pub fewer_left : (b : Bounds) (old new : Progress) (lot : Lot) (o : Option Lot) 
 fewer_left b old new lot o is end same next =
     let more : old.first < length (pairs_of old.bounds) = less old.first (length (pairs_of old.bounds)) (λ l. true≢false (ap is_some (sym is) ∙ end.1 l)) in
     let many : length lot.pairs ≡ min 4096 (length (pairs_of old.bounds) - old.first) =
-        sym (length-map lot.pairs pair_of) ∙ ap length next.pairs ∙ length-take 4096 (drop old.first (pairs_of old.bounds)) ∙ ap (min 4096) (length-drop old.first (pairs_of old.bounds)) in
+    sym (length-map lot.pairs pair_of) ∙ ap length next.pairs ∙ length-take 4096 (drop old.first (pairs_of old.bounds)) ∙ ap (min 4096) (length-drop old.first (pairs_of old.bounds)) in
     subst (λ x. length (pairs_of x) - new.first < length (pairs_of x) - old.first) same (let moved = next.next in omega arith)
 
 -- what was written whole is a prefix of it
@@ -123,12 +123,15 @@ module _ (b : Bounds) (rose : Type 0) (old : Option (List ℕ)) where
       ended = record { status = 0; text = head_line b.steps ++ (lines ++ end_line count) }
 
       ended_whole : IsWhole b ended
-      ended_whole = (record {
-        lines = lines;
-        count = are.number;
-        are = are.are;
-        is = ap (λ n. head_line b.steps ++ (lines ++ end_line n)) are.counted;
-      }, refl)
+      ended_whole = (
+        record {
+          lines = lines;
+          count = are.number;
+          are = are.are;
+          is = ap (λ n. head_line b.steps ++ (lines ++ end_line n)) are.counted;
+        },
+        refl,
+      )
 
       both : put ≡ append_known old (head_line b.steps ++ lines)
       both = rules ∙ (ap (λ m. append_known m lines) head ∙ append_known-twice old (head_line b.steps) lines)
@@ -145,5 +148,9 @@ module _ (b : Bounds) (rose : Type 0) (old : Option (List ℕ)) where
       )
 
       pub ends_whole : (new : Option (List ℕ)) → new ≡ append_known put (end_line count) → Discovers b rose old new (Ok 0)
-      ends_whole new e = (ended, ended_whole, refl,
-          e ∙ (ap (λ m. append_known m (end_line count)) both ∙ (append_known-twice old (head_line b.steps ++ lines) (end_line count) ∙ ap (append_known old) (append_assoc (head_line b.steps) lines (end_line count)))))
+      ends_whole new e = (
+        ended,
+        ended_whole,
+        refl,
+        e ∙ (ap (λ m. append_known m (end_line count)) both ∙ (append_known-twice old (head_line b.steps ++ lines) (end_line count) ∙ ap (append_known old) (append_assoc (head_line b.steps) lines (end_line count)))),
+      )

@@ -41,26 +41,26 @@ TwoKeep v = (s t : SideTree) → IsTower s → IsTower t → IsTower (v s t)
 destinations_are_towers : (ops most leaves lists preds : ℕ) → HasOnlyFiltersAndDedups ops → Each IsTower (destinations_over ops most leaves lists preds)
 destinations_are_towers ops most leaves lists preds only = trees_of_sizes_keep IsTower (map (λ r. input r) (numbers_from 0 leaves)) (makers ops lists preds)
     (each_map IsTower (λ r. input r) (numbers_from 0 leaves) (each_for (numbers_from 0 leaves) (λ r. tt))) (
-  no_variant OneKeeps ops 0 (map (λ a s. proj a s) (numbers_from 0 lists)) only.no_proj,
-  (
-    each_letter OneKeeps ops 1 (flat_map (λ p. map (λ a s. filtered p a s) (numbers_from 0 lists)) (numbers_from 0 preds))
-        (each_flat_map OneKeeps (λ p. map (λ a s. filtered p a s) (numbers_from 0 lists)) (numbers_from 0 preds)
-        (each_for (numbers_from 0 preds) (λ p. each_map OneKeeps (λ a s. filtered p a s) (numbers_from 0 lists) (each_for (numbers_from 0 lists) (λ a s h. h))))),
-    (
-      no_variant TwoKeep ops 2 (flat_map (λ a. map (λ b s t. inner_join a b s t) (numbers_from 0 lists)) (numbers_from 0 lists)) only.no_inner_join,
+      no_variant OneKeeps ops 0 (map (λ a s. proj a s) (numbers_from 0 lists)) only.no_proj,
       (
-        no_variant TwoKeep ops 3 (flat_map (λ a. map (λ b s t. left_join a b s t) (numbers_from 0 lists)) (numbers_from 0 lists)) only.no_left_join,
+        each_letter OneKeeps ops 1 (flat_map (λ p. map (λ a s. filtered p a s) (numbers_from 0 lists)) (numbers_from 0 preds))
+            (each_flat_map OneKeeps (λ p. map (λ a s. filtered p a s) (numbers_from 0 lists)) (numbers_from 0 preds)
+            (each_for (numbers_from 0 preds) (λ p. each_map OneKeeps (λ a s. filtered p a s) (numbers_from 0 lists) (each_for (numbers_from 0 lists) (λ a s h. h))))),
         (
-          no_variant TwoKeep ops 4 (map (λ a s t. in_sub a s t) (numbers_from 0 lists)) only.no_in_sub,
+          no_variant TwoKeep ops 2 (flat_map (λ a. map (λ b s t. inner_join a b s t) (numbers_from 0 lists)) (numbers_from 0 lists)) only.no_inner_join,
           (
-            each_letter OneKeeps ops 5 ((λ s. dedup s) ∷ []) (λ s h. h, tt),
-            tt,
+            no_variant TwoKeep ops 3 (flat_map (λ a. map (λ b s t. left_join a b s t) (numbers_from 0 lists)) (numbers_from 0 lists)) only.no_left_join,
+            (
+              no_variant TwoKeep ops 4 (map (λ a s t. in_sub a s t) (numbers_from 0 lists)) only.no_in_sub,
+              (
+                each_letter OneKeeps ops 5 ((λ s. dedup s) ∷ []) (λ s h. h, tt),
+                tt,
+              ),
+            ),
           ),
         ),
       ),
-    ),
-  ),
-) 0 (suc most)
+    ) 0 (suc most)
 
 none_is : {X : Type 0} (o : Option X) → is_none o ≡ true → o ≡ None
 none_is None e = refl
@@ -72,6 +72,7 @@ passing source anchors (d ∷ dests) s h = here (is_lawful p) refl (passing sour
   where
     p : PairTree
     p = record { source = source; dest = d; anchors = anchors }
+
     here : (b : Bool) → is_lawful p ≡ b → Each IsTowerPair (lawful_pairs source anchors dests) → Each IsTowerPair (cond b (p ∷ lawful_pairs source anchors dests) (lawful_pairs source anchors dests))
     here true e k = ((lawful_from_none p (none_is (fault_of p) e), (s, h.0)), k)
     here false e k = k
@@ -80,8 +81,8 @@ pub pairs_are_towers : (b : Bounds) → HasOnlyFiltersAndDedups b.ops.0 → Each
 pairs_are_towers b only = each_flat_map IsTowerPair (pairs_of_template b.ops.0 b.dst) (templates b.ops.0 b.src)
     (each_implies IsTowerShape (λ t. Each IsTowerPair (pairs_of_template b.ops.0 b.dst t)) (templates b.ops.0 b.src)
     (λ t h. each_flat_map IsTowerPair (pairs_of_anchoring b.ops.0 b.dst t) (anchorings (leaf_count t) (list_count t))
-        (each_for (anchorings (leaf_count t) (list_count t)) (λ anchors. passing (source_of t) anchors (destinations b.ops.0 b.dst t) (numbered_tower t 0 0 0 h)
-        (destinations_are_towers b.ops.0 b.dst (leaf_count t) (list_count t) (pred_count t) only))))
+    (each_for (anchorings (leaf_count t) (list_count t)) (λ anchors. passing (source_of t) anchors (destinations b.ops.0 b.dst t) (numbered_tower t 0 0 0 h)
+    (destinations_are_towers b.ops.0 b.dst (leaf_count t) (list_count t) (pred_count t) only))))
     (templates_are_towers b.ops.0 b.src only))
 
 -- what holds of each holds at each place

@@ -1,8 +1,8 @@
 //! The commands of `wetune`, each from its words to a status and the bytes written.
 #![tactic(auto)]
 
-mod fault_names;
 mod discovering;
+mod fault_names;
 mod form;
 mod input;
 mod line;

@@ -276,9 +276,47 @@ fn stops_at_faults(rt: HostRuntime) -> Result<(), Fail> {
     )
 }
 
+const FILTER_RULES: &str =
+    "Filter<p0,a0@r0>(Filter<p1,a1@r0>(r0)) => Filter<p0,a0>(r0) | AttrsEq(a0,a1) PredEq(p0,p1)
+Filter<p0,a0@r0>(Filter<p1,a1@r0>(r0)) => Filter<p0,a1>(r0) | AttrsEq(a0,a1) PredEq(p0,p1)
+Filter<p0,a0@r0>(Filter<p1,a1@r0>(r0)) => Filter<p1,a0>(r0) | AttrsEq(a0,a1) PredEq(p0,p1)
+Filter<p0,a0@r0>(Filter<p1,a1@r0>(r0)) => Filter<p1,a1>(r0) | AttrsEq(a0,a1) PredEq(p0,p1)
+";
+
+const DEDUP_RULE: &str = "Dedup(Dedup(r0)) => Dedup(r0) | -\n";
+
+#[test]
+fn discovers_rules(rt: HostRuntime) -> Result<(), Fail> {
+    let alloc = rt.alloc();
+    for (words, filters, dedups, count) in [
+        ("discover src=2 dst=1 ops=F", FILTER_RULES, "", 4),
+        ("discover src=2 dst=1 ops=D", "", DEDUP_RULE, 1),
+        ("discover src=2 dst=1 ops=FD", FILTER_RULES, DEDUP_RULE, 5),
+        ("discover src=2 dst=1 ops=DF", FILTER_RULES, DEDUP_RULE, 5),
+        ("discover src=1 dst=0 ops=FD", "", "", 0),
+    ] {
+        let written = format!(in alloc; "wetune-rules 1 steps=8\n{filters}{dedups}end {count}\n")?;
+        let mut store = store(alloc, SCHEMA, QUERY, 0)?;
+        let mut sink = MemSink::new(alloc, 4096, calls(alloc, 0)?)?;
+        let status = answers(&rt, words, &mut store, &mut sink)?;
+        assert_eq!(rt; status, 0, "{words}");
+        assert_eq!(rt; sink.as_bytes(), written.as_bytes(), "{words}");
+    }
+    Ok(())
+}
+
 #[test]
 fn refuses_words(rt: HostRuntime) -> Result<(), Fail> {
-    for words in ["", "rewrite A S", "rewrite A S Q more", "check A"] {
+    for words in [
+        "",
+        "rewrite A S",
+        "rewrite A S Q more",
+        "check A",
+        "discover src=3 dst=1 ops=F",
+        "discover src=2 dst=2 ops=F",
+        "discover src=2 dst=1 ops=P",
+        "discover dst=1 src=2 ops=F",
+    ] {
         check(
             &rt,
             &Case {

@@ -1,13 +1,20 @@
 -- A lot among the pairs of the bounds.
-use Rattle.std.proofs.Common.{◌≡◌, ℕ, ◌+◌, ◌≤◌, Bool, true, false, List, [], ◌++◌, map, length, take, drop, inl, inr, refl, sym, ap, ◌∙◌, arith, length-append, length-drop, length-take, append_assoc}
+use Rattle.std.proofs.Common.{◌≡◌, ℕ, zero, suc, ◌+◌, ◌≤◌, Bool, true, false, List, [], ◌∷◌, ◌++◌, map, length, take, drop, Option, Some, None, inl, inr, refl, sym, ap, ◌∙◌, arith, length-append, length-drop, length-take, append_assoc}
 use Rattle.std.proofs.lemmas.List.{append-nil, drop-drop, drop_at, take_at, take_all, take-append-drop, nil_from_length}
+use Rattle.std.specs.Prelude.{All, filter, is_none, if◌then◌else◌}
 use Rattle.std.proofs.lemmas.List.{length-map}
+use Rattle.wt_bag.specs.Bags.{Each}
+use Rattle.wt_bag.proofs.EachLaws.{each_for, each_flat_map, each_implies, each_of_map}
+use Rattle.wt_template.specs.Shapes.{templates}
+use Rattle.wt_symbol.specs.declared.fault.PairFault.{PairFault}
+use Rattle.wt_symbol.specs.Lawful.{IsLawful, fault_of}
+use Rattle.wt_symbol.proofs.SymbolLemmas.{lawful_from_none}
 use Rattle.wt_symbol.specs.Sides.{PairTree, pair_of}
 use Rattle.wt_symbol.specs.declared.side.Pair.{Pair}
 use Rattle.wt_pair.specs.declared.bounds.Bounds.{Bounds}
 use Rattle.wt_pair.specs.declared.walk.Cursor.{Cursor}
 use Rattle.wt_pair.specs.declared.lot.Lot.{Lot}
-use Rattle.wt_pair.specs.Candidates.{pairs_of}
+use Rattle.wt_pair.specs.Candidates.{leaf_count, list_count, source_of, destinations, anchorings, is_lawful, pairs_of_anchoring, pairs_of_template, pairs_of}
 use Rattle.wt_pair.specs.Track.{IsOnTrack}
 use Rattle.wt_pair.specs.Lots.{IsNextLot}
 use Rattle.wt_pair.specs.Walk.{Fills, Progress}
@@ -42,6 +49,52 @@ module _ (P had lot from rest : List PairTree) (f : ℕ) (none : had ≡ []) (be
       let none : length lot ≡ 0 = omega (arith, length-append lot rest, ap length joined, length-drop f P) in
       some (nil_from_length lot none)
 
+-- ---- every pair is lawful
+
+filter_passes : {X : Type 0} (p : X → Bool) (xs : List X) → Each (λ x. p x ≡ true) (filter p xs)
+filter_passes p [] = tt
+filter_passes p (x ∷ xs) =
+    elim (p x) as (λ b. p x ≡ b → Each (λ y. p y ≡ true) (if b then x ∷ filter p xs else filter p xs)) [
+      | true ↦ λ e. (e, filter_passes p xs)
+      | false ↦ λ e. filter_passes p xs
+    ] refl
+
+none_from : (f : Option PairFault) → is_none f ≡ true → f ≡ None
+none_from None h = refl
+none_from (Some f) h = cc
+
+is_none_from : (p : PairTree) → is_lawful p ≡ true → IsLawful p
+is_none_from p h = lawful_from_none p (none_from (fault_of p) h)
+
+each_lawful : (b : Bounds) → Each IsLawful (pairs_of b)
+each_lawful b =
+    each_flat_map IsLawful (pairs_of_template b.ops.0 b.dst) (templates b.ops.0 b.src)
+    (each_for (templates b.ops.0 b.src) (λ t.
+    each_flat_map IsLawful (pairs_of_anchoring b.ops.0 b.dst t) (anchorings (leaf_count t) (list_count t))
+    (each_for (anchorings (leaf_count t) (list_count t)) (λ anchors.
+    each_implies (λ p. is_lawful p ≡ true) IsLawful (pairs_of_anchoring b.ops.0 b.dst t anchors) is_none_from
+    (filter_passes is_lawful (map (λ d. record { source = source_of t; dest = d; anchors = anchors }) (destinations b.ops.0 b.dst t)))))))
+
+each_take : {X : Type 0} (P : X → Type 0) (n : ℕ) (xs : List X) → Each P xs → Each P (take n xs)
+each_take P zero xs h = tt
+each_take P (suc n) [] h = tt
+each_take P (suc n) (x ∷ xs) h = (h.0, each_take P n xs h.1)
+
+each_drop : {X : Type 0} (P : X → Type 0) (n : ℕ) (xs : List X) → Each P xs → Each P (drop n xs)
+each_drop P zero xs h = h
+each_drop P (suc n) [] h = tt
+each_drop P (suc n) (x ∷ xs) h = each_drop P n xs h.1
+
+all_from_each : {X : Type 0} (P : X → Type 0) (xs : List X) → Each P xs → All P xs
+all_from_each P [] h k d within = absurd (omega arith)
+all_from_each P (x ∷ xs) h zero d within = h.0
+all_from_each P (x ∷ xs) h (suc k) d within = all_from_each P xs h.1 k d (omega arith)
+
+pub lot_lawful : (b : Bounds) (f : ℕ) (pairs : List Pair) → map pair_of pairs ≡ take 4096 (drop f (pairs_of b)) → All (λ p. IsLawful (pair_of p)) pairs
+lot_lawful b f pairs is =
+    let each : Each IsLawful (map pair_of pairs) = rw is (each_take IsLawful 4096 _ (each_drop IsLawful f _ (each_lawful b))) in
+    all_from_each (λ p. IsLawful (pair_of p)) pairs (each_of_map IsLawful pair_of pairs each)
+
 pub on_track : (b : Bounds) (at : Cursor) (f m n : ℕ) → m ≡ n → IsOnTrack b at (f + n) → IsOnTrack b at (f + m)
 on_track b at f m n e h = rw e h
 
@@ -51,11 +104,13 @@ pub lot_is : (b : Bounds) (f n : ℕ) (old : Progress) (lot : Lot) (had from res
 lot_is b f n old lot had from rest is none begin within filled same_bounds same_first many =
     let P = pairs_of b in
     let count : n ≡ length (map pair_of lot.pairs) = omega (arith, many, length-map lot.pairs pair_of) in
+    let pairs = lot_pairs P had (map pair_of lot.pairs) from rest f none begin filled in
     rw (← is)
     (record {
       bounds = same_bounds;
       first = same_first;
-      pairs = lot_pairs P had (map pair_of lot.pairs) from rest f none begin filled;
+      pairs = pairs;
+      lawful = lot_lawful b f lot.pairs pairs;
       next = ap (λ k. f + k) many;
       together = rw count (lot_together P had (map pair_of lot.pairs) from rest f none begin filled within);
     })

@@ -1,0 +1,5 @@
+pub mod Inversions
+pub mod Took
+pub mod SoundParts
+pub mod SoundQueries
+pub mod Sound

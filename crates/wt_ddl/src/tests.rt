@@ -1,6 +1,8 @@
 use crate::{DdlError, DdlFault, read_schema};
 use std::alloc::{AllocError, Global};
 use wt_lex::LexFault;
+use wt_schema::{Database, RowsList};
+use wt_value::{Row, Rows, Value};
 
 fn fault_is(alloc: Global, text: &str, fault: DdlFault, at: u32) -> bool {
     match read_schema(alloc, text.as_bytes()) {
@@ -307,5 +309,68 @@ fn limits_refuse_where_they_are_passed(rt: HostRuntime) -> Result<(), AllocError
     let many = many_tables(alloc, 257)?;
     assert!(rt; table_count(alloc, &most) == Some(256));
     assert!(rt; fault_is(alloc, &many, DdlFault::TooManyTables, 6559));
+    Ok(())
+}
+
+fn rows_of(alloc: Global, lists: &[&[Option<i64>]]) -> Result<Rows, AllocError> {
+    let mut rows = Rows::new(alloc);
+    for values in lists {
+        let mut row = Row::new(alloc);
+        for value in values.iter() {
+            row.push(value.map_or(Value::Null, Value::Int))?;
+        }
+        rows.push(row)?;
+    }
+    Ok(rows)
+}
+
+fn base_of(
+    alloc: Global,
+    customers: &[&[Option<i64>]],
+    orders: &[&[Option<i64>]],
+) -> Result<Database, AllocError> {
+    let mut tables = RowsList::new(alloc);
+    tables.push(rows_of(alloc, customers)?)?;
+    tables.push(rows_of(alloc, orders)?)?;
+    Ok(Database { tables })
+}
+
+// Columns of `o`: its key, a reference, a reference that is NOT NULL, and a UNIQUE column.
+#[test]
+fn databases_satisfy_a_schema(rt: HostRuntime) -> Result<(), DdlError> {
+    let alloc = rt.alloc();
+    let text =
+        b"CREATE TABLE cust (id INTEGER PRIMARY KEY, age INTEGER); CREATE TABLE o (id INTEGER PRIMARY KEY, c INTEGER REFERENCES cust (id), d INTEGER NOT NULL REFERENCES cust (id), k INTEGER UNIQUE);";
+    let schema = read_schema(alloc, text)?;
+    let one: [&[Option<i64>]; 1] = [&[Some(1), None]];
+    let null_key: [&[Option<i64>]; 1] = [&[None, Some(1)]];
+    let same_key: [&[Option<i64>]; 2] = [&[Some(1), None], &[Some(1), Some(2)]];
+    let none: [&[Option<i64>]; 0] = [];
+    let good: [&[Option<i64>]; 2] = [
+        &[Some(1), None, Some(1), None],
+        &[Some(2), Some(1), Some(1), None],
+    ];
+    let no_row: [&[Option<i64>]; 1] = [&[Some(1), Some(3), Some(1), None]];
+    let null_there: [&[Option<i64>]; 1] = [&[Some(1), None, None, None]];
+    let twice: [&[Option<i64>]; 2] = [
+        &[Some(1), None, Some(1), Some(7)],
+        &[Some(2), None, Some(1), Some(7)],
+    ];
+    let narrow: [&[Option<i64>]; 1] = [&[Some(1), None, Some(1)]];
+    assert!(rt; schema.satisfies(&base_of(alloc, &one, &good)?));
+    assert!(rt; schema.satisfies(&base_of(alloc, &one, &none)?));
+    assert!(rt; schema.satisfies(&base_of(alloc, &none, &none)?));
+    assert!(rt; !schema.satisfies(&base_of(alloc, &none, &good)?));
+    assert!(rt; !schema.satisfies(&base_of(alloc, &null_key, &none)?));
+    assert!(rt; !schema.satisfies(&base_of(alloc, &same_key, &none)?));
+    assert!(rt; !schema.satisfies(&base_of(alloc, &one, &no_row)?));
+    assert!(rt; !schema.satisfies(&base_of(alloc, &one, &null_there)?));
+    assert!(rt; !schema.satisfies(&base_of(alloc, &one, &twice)?));
+    assert!(rt; !schema.satisfies(&base_of(alloc, &one, &narrow)?));
+    assert!(rt;
+        !schema.satisfies(&Database {
+            tables: RowsList::new(alloc)
+        })
+    );
     Ok(())
 }

@@ -7,3 +7,5 @@ pub mod Steps
 pub mod Provable
 pub mod FormOf
 pub mod Weights
+pub mod Under
+pub mod Relaxed

@@ -8,7 +8,10 @@
 ghost use Rattle.wt_form.specs.Trees.{Form};
 ghost use Rattle.wt_form.specs.Known.{Known};
 ghost use Rattle.wt_form.specs.Provable.{Chain};
-ghost use Rattle.std.specs.Prelude.{ℕ};
+ghost use Rattle.std.specs.Prelude.{◌≡◌, ℕ, List};
+ghost use Rattle.wt_symbol.specs.Sides.{PairTree};
+ghost use Rattle.wt_constraint.specs.declared.set.AtomSet.{AtomSet};
+ghost use Rattle.wt_form.specs.Relaxed.{AreRules};
 
 use wt_symbol::PartCols;
 
@@ -23,4 +26,10 @@ pub enum Expr {
 /// A law: a chain of no steps is there from each form to itself, under any bound.
 pub fn no_step_is_a_chain()
     ensures { (known : Known) (steps : ℕ) (form : Form) → Chain known steps form form }
+{}
+
+/// A law: a pair has one list of rules, for any number of steps and any depth.
+pub fn one_list_of_rules()
+    ensures { (pair : PairTree) (steps depth : ℕ) (xs ys : List AtomSet) →
+        AreRules pair steps depth xs → AreRules pair steps depth ys → xs ≡ ys }
 {}

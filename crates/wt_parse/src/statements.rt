@@ -56,7 +56,8 @@ fn is_semicolon(kind: TokenKind) -> bool
 
 // Adds a piece, if it has tokens.
 fn add(pieces: &mut Vec<Piece>, from: usize, to: usize, end: u32) -> Result<(), WantOfMemory>
-    ensures { IfOk result (λ _. pieces.new.items ≡ pieces.old.items ++ kept from to end) }
+    ensures adds { IfOk result (λ _. pieces.new.items ≡ pieces.old.items ++ kept from to end) }
+    ensures few { from ≤ to → IfOk result (λ _. length pieces.new.items + from ≤ length pieces.old.items + to) }
 {
     if from < to {
         pieces.push(Piece { from, to, end })?;
@@ -69,6 +70,7 @@ fn step(pieces: &mut Vec<Piece>, token: Token, from: usize, i: usize) -> Result<
     requires { i < 2 ^ 64 - 1 }
     ensures mark { spec.is_semicolon token.kind ≡ true → IfOk result (λ next. (next ≡ i + 1) × (pieces.new.items ≡ pieces.old.items ++ kept from i token.start)) }
     ensures other { spec.is_semicolon token.kind ≡ false → IfOk result (λ next. (next ≡ from) × (pieces.new.items ≡ pieces.old.items)) }
+    ensures few { from ≤ i → IfOk result (λ next. length pieces.new.items + from ≤ length pieces.old.items + next) }
 {
     if !is_semicolon(token.kind) {
         return Ok(from);
@@ -81,6 +83,7 @@ fn step(pieces: &mut Vec<Piece>, token: Token, from: usize, i: usize) -> Result<
 fn cut(alloc: Global, tokens: &Tokens, size: u32) -> Result<Vec<Piece>, WantOfMemory>
     ensures shown { IfOk result (λ v. map (shown tokens.now) v.items ≡ spec.statements size tokens.now) }
     ensures holds { IfOk result (λ v. All (Holds tokens.now) v.items) }
+    ensures few { IfOk result (λ v. length v.items ≤ length tokens.now) }
 {
     let mut pieces = Vec::new(alloc);
     let mut from = 0;
@@ -97,6 +100,8 @@ fn cut(alloc: Global, tokens: &Tokens, size: u32) -> Result<Vec<Piece>, WantOfMe
 /// tokens is refused.
 pub fn read_queries(alloc: Global, bytes: &[u8]) -> Result<Queries, LexError>
     ensures exact { Reads (λ q. q) result (spec.file_of bytes.now) }
+    // Each statement has a byte, so their number fits in 32 bits.
+    ensures few { IfOk result (λ q. length q.statements ≤ 16777216) }
 {
     let tokens = lex(alloc, bytes)?;
     let pieces = cut(alloc, &tokens, bytes.len() as u32)?;
@@ -114,6 +119,14 @@ impl Queries {
         ensures { result ≡ min (2 ^ 32 - 1) (length self.now.statements) }
     {
         u32::try_from(self.pieces.len()).unwrap_or(u32::MAX)
+    }
+
+    /// The offset of the first byte of the n-th statement, from 0.
+    pub fn begin(&self, n: u32) -> u32
+        requires { n < length self.now.statements }
+        ensures exact { (s : spec.Statement) → slice_get self.now.statements n ≡ Some s → result ≡ spec.begin s s.tokens }
+    {
+        begin_of(&self.tokens, self.pieces[n as usize])
     }
 
     /// The query that the n-th statement is, from 0, or its first refusal.
@@ -171,6 +184,14 @@ fn limited(alloc: Global, query: Query) -> Result<Query, QueryError>
         Some(at) => Err(QueryError::Refused(QueryFault::TooMany, at)),
         None => Ok(query),
     }
+}
+
+// The offset of the first byte of a piece of the tokens.
+fn begin_of(tokens: &Tokens, piece: Piece) -> u32
+    requires { Holds tokens.now piece }
+    ensures { result ≡ spec.begin (shown tokens.now piece) (shown tokens.now piece).tokens }
+{
+    tokens.get(piece.from).start
 }
 
 // The query that a piece of the tokens is, or its first refusal.

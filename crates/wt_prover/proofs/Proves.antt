@@ -12,7 +12,7 @@ use Rattle.wt_form.specs.Congruent.{TermsSame}
 use Rattle.wt_form.specs.Provable.{Chain, ProvableForms}
 use Rattle.wt_prover.specs.declared.sames.Sames.{Sames}
 use Rattle.wt_prover.specs.declared.tower.Tower.{Tower}
-use Rattle.wt_prover.specs.Sames.{known_of}
+use Rattle.wt_prover.specs.Sames.{known_with, known_of}
 use Rattle.wt_prover.specs.Towers.{Levels, levels_of, terms_of, leaf_of, whole, tower_form, test_same, towers_same}
 use Rattle.wt_prover.specs.TowerSteps.{tower_steps, reached, some_same}
 use Rattle.wt_prover.proofs.SameTowers.{test_same_law, towers_same_to, towers_same_from}
@@ -81,13 +81,13 @@ list_any_ext : {X : Type 0} (p q : X → Bool) (xs : List X) → ((x : X) → p 
 list_any_ext p q [] h = refl
 list_any_ext p q (x ∷ xs) h = ap (λ b. b || list_any p xs) (h x) ∙ ap (λ b. q x || b) (list_any_ext p q xs h)
 
--- what the search of two lists of towers answers
-pub search_tells : (sames : Sames) (k : ℕ) (a b : Levels) (xs ys : List Tower) (found : Bool) →
+-- what the search of two lists of towers answers, whatever is known of lists within one another
+pub search_tells : (sames : Sames) (within : ℕ → ℕ → Bool) (k : ℕ) (a b : Levels) (xs ys : List Tower) (found : Bool) →
     map levels_of xs ≡ reached (known_of sames) k a → map levels_of ys ≡ reached (known_of sames) k b →
     found ≡ list_any (λ x. list_any (λ y. towers_same (known_of sames) (levels_of x) (levels_of y)) ys) xs →
-    IsTrue found ↔ ProvableForms (known_of sames) k (tower_form a) (tower_form b)
-search_tells sames k a b xs ys found e f is =
-    let K : Known = known_of sames in
+    IsTrue found ↔ ProvableForms (known_with sames within) k (tower_form a) (tower_form b)
+search_tells sames within k a b xs ys found e f is =
+    let K : Known = known_with sames within in
     let inner : (t : Levels) → list_any (λ y. towers_same K t (levels_of y)) ys ≡ list_any (λ u. towers_same K t u) (reached K k b) =
     λ t. sym (list_any-map (λ u. towers_same K t u) levels_of ys) ∙ ap (list_any (λ u. towers_same K t u)) f in
     let whole : found ≡ some_same K (reached K k a) (reached K k b) =

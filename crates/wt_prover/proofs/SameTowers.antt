@@ -1,8 +1,9 @@
 -- Forms of towers are congruent exactly where the towers pass the test.
-use Rattle.std.proofs.Common.{ℕ, zero, suc, ◌≡◌, ◌<◌, true, List, [], ◌∷◌, map, refl, sym, ap, ◌∙◌, subst, arith, eqb-true, eq-eqb}
+use Rattle.std.proofs.Common.{ℕ, zero, suc, ◌≡◌, ◌<◌, true, List, [], ◌∷◌, map, refl, sym, ap, subst, arith}
 use Rattle.std.proofs.lemmas.Bool.{false≢true, and_parts, and_from}
 use Rattle.wt_bag.specs.Choices.{At, drop_at, PairsBy}
 use Rattle.wt_bag.proofs.PairsByLaws.{IsEquivalent, both_alike_pairs}
+use Rattle.wt_prover.proofs.ClassLaws.{class_law}
 use Rattle.wt_symbol.specs.declared.head.PartCols.TheVariants.{Whole}
 use Rattle.wt_form.specs.declared.Expr.TheVariants.{Of}
 use Rattle.wt_form.specs.Trees.{Terms, no_ranges, range_then, FormRange, Rel, distinct_of}
@@ -11,21 +12,13 @@ use Rattle.wt_form.specs.Known.{Known, heads_same}
 use Rattle.wt_form.specs.Congruent.{TermsSame, RangesSame, RangeSame, CondsSame, CondSame}
 use Rattle.wt_prover.specs.declared.tower.Test.{Test}
 use Rattle.wt_prover.specs.declared.sames.Sames.{Sames}
-use Rattle.wt_prover.specs.Sames.{known_of, same_class, class_of}
+use Rattle.wt_prover.specs.Sames.{known_of, same_class}
 use Rattle.wt_prover.specs.Towers.{Levels, table, over, terms_of, leaf_of, whole, test_cond, tests_conds, test_same, tests_same, towers_same}
-
--- symbols of one class
-same_class_law : (classes : List ℕ) → IsEquivalent (same_class classes)
-same_class_law classes = record {
-  reflexive = λ i. eq-eqb (class_of classes i) (class_of classes i) refl;
-  symmetric = λ i j h. eq-eqb (class_of classes j) (class_of classes i) (sym (eqb-true (class_of classes i) (class_of classes j) h));
-  transitive = λ i j k h l. eq-eqb (class_of classes i) (class_of classes k) (eqb-true (class_of classes i) (class_of classes j) h ∙ eqb-true (class_of classes j) (class_of classes k) l);
-}
 
 pub test_same_law : (sames : Sames) → IsEquivalent (test_same (known_of sames))
 test_same_law sames =
-    let preds = same_class_law sames.preds in
-    let lists = same_class_law sames.lists in
+    let preds = class_law sames.preds in
+    let lists = class_law sames.lists in
     record {
       reflexive = λ x. and_from _ _ (preds.reflexive x.pred) (lists.reflexive x.list);
       symmetric = λ x y h. let p = and_parts (same_class sames.preds x.pred y.pred) (same_class sames.lists x.list y.list) h in

@@ -1,5 +1,5 @@
 -- The form of a side that has only inputs, filters and dedups is that of its tower.
-use Rattle.std.proofs.Common.{ℕ, ◌≡◌, Bool, true, false, ◌||◌, ◌&&◌, ◌==◌, cond, List, [], ◌∷◌, ◌++◌, nat_eq, refl, sym, ap, ◌∙◌, subst, eqb-true, eq-eqb}
+use Rattle.std.proofs.Common.{ℕ, ◌≡◌, Bool, true, false, ◌||◌, cond, List, [], ◌∷◌, nat_eq, refl, sym, ap, ◌∙◌, subst}
 use Rattle.std.proofs.lemmas.Bool.{and_parts}
 use Rattle.wt_symbol.specs.declared.head.Part.{Part}
 use Rattle.wt_symbol.specs.declared.head.PartCols.TheVariants.{Whole, List as Listed}
@@ -8,7 +8,7 @@ use Rattle.wt_symbol.specs.Lawful.{occurs, visible_leaves, sees, stands}
 use Rattle.wt_symbol.specs.Heads.{anchor, head_of}
 use Rattle.wt_form.specs.declared.Expr.{Expr}
 use Rattle.wt_form.specs.declared.Expr.TheVariants.{Of, Null as NullOf}
-use Rattle.wt_form.specs.Trees.{Terms, no_terms, Ranges, no_ranges, range_then, FormRange, distinct_of, Conds, no_conds, cond_then, Cond, Pred, Form}
+use Rattle.wt_form.specs.Trees.{Terms, no_ranges, range_then, distinct_of, no_conds, Cond, Pred, Form}
 use Rattle.wt_form.specs.Parts.{one_term, with_cond}
 use Rattle.wt_form.specs.FormOf.{each_term, cond_term, list_of, list_expr, side_terms, part_pieces, form_of}
 use Rattle.wt_prover.specs.declared.tower.Test.{Test}
@@ -61,8 +61,8 @@ side_terms_are (filtered p a s) A h e =
     let parts = and_parts (stands s A) (sees s A a) e in
     let x : Test = record { pred = p; list = a } in
     let cond_is : Pred p (list_of (head_of s A) A a (Of 0 0 Whole ∷ [])) ≡ test_cond x =
-        ap (λ hs. Pred p (list_expr hs (Of 0 0 Whole ∷ []) (anchor A a) a)) (side_head s A h)
-        ∙ ap (λ b. Pred p (cond b (Of 0 0 (Listed a)) (NullOf (anchor A a) (Listed a)))) (anchored s A a h parts.1) in
+    ap (λ hs. Pred p (list_expr hs (Of 0 0 Whole ∷ []) (anchor A a) a)) (side_head s A h)
+    ∙ ap (λ b. Pred p (cond b (Of 0 0 (Listed a)) (NullOf (anchor A a) (Listed a)))) (anchored s A a h parts.1) in
     ap (each_term (cond_term (λ ps. Pred p (list_of (head_of s A) A a ps)))) (side_terms_are s A h parts.0)
     ∙ filtered_terms (tower_of s) (λ ps. Pred p (list_of (head_of s A) A a ps)) x cond_is
 side_terms_are (dedup s) A h e =

@@ -1,5 +1,5 @@
 -- The tower of a side that has only inputs, filters and dedups.
-use Rattle.std.specs.Prelude.{ℕ, List, [], ◌∷◌, ◌++◌}
+use Rattle.std.specs.Prelude.{[], ◌∷◌, ◌++◌}
 use Rattle.wt_symbol.specs.Sides.{SideTree, input, proj, filtered, inner_join, left_join, in_sub, dedup}
 use Rattle.wt_prover.specs.declared.tower.Test.{Test}
 use Rattle.wt_prover.specs.Towers.{Levels, table, over}

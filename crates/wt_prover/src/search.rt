@@ -1,8 +1,8 @@
 //! The search for two chains of steps that end in congruent forms.
-ghost use Rattle.std.specs.Prelude.{◌≡◌, ◌↔◌, ◌++◌, map, flat_map, IsTrue, IfOk, OnOk};
+ghost use Rattle.std.specs.Prelude.{◌≡◌, ◌↔◌, ℕ, Bool, ◌++◌, map, flat_map, IsTrue, IfOk, OnOk};
 ghost use Rattle.std.specs.List.{list_any};
 ghost use Rattle.wt_form.specs.Provable.{ProvableForms};
-ghost use Rattle.wt_prover.specs.Sames.{known_of};
+ghost use Rattle.wt_prover.specs.Sames.{known_of, known_with};
 ghost use Rattle.wt_prover.specs.Towers.{levels_of, towers_same, tower_form};
 ghost use Rattle.wt_prover.specs.TowerSteps.{reached};
 
@@ -83,7 +83,8 @@ pub fn prove_towers(
     dest: Tower,
     steps: u32,
 ) -> Result<bool, AllocError>
-    ensures { IfOk result (λ yes. IsTrue yes ↔ ProvableForms (known_of sames.now) steps (tower_form (levels_of source)) (tower_form (levels_of dest))) }
+    ensures { IfOk result (λ yes. (within : ℕ → ℕ → Bool) →
+        (IsTrue yes ↔ ProvableForms (known_with sames.now within) steps (tower_form (levels_of source)) (tower_form (levels_of dest)))) }
 {
     let from_source = reached_from(alloc, sames, source, steps)?;
     let from_dest = reached_from(alloc, sames, dest, steps)?;

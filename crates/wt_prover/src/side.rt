@@ -1,12 +1,26 @@
 //! The tower of a side.
-ghost use Rattle.std.specs.Prelude.{◌≡◌, IfOk};
+ghost use Rattle.std.specs.Prelude.{◌≡◌, ◌↔◌, IsTrue, IfOk};
 ghost use Rattle.wt_symbol.specs.Sides.{tree_of};
 ghost use Rattle.wt_prover.specs.Towers.{levels_of};
-ghost use Rattle.wt_prover.specs.SideTowers.{with_test, tower_of};
+ghost use Rattle.wt_prover.specs.SideTowers.{IsTower, with_test, tower_of};
 
 use crate::tower::{Test, Tests, Tower};
 use std::alloc::{AllocError, Global};
 use wt_symbol::Side;
+
+/// Whether the side has only inputs, filters and dedups.
+pub fn is_tower(side: &Side) -> bool
+    ensures { IsTrue result ↔ IsTower (tree_of side.now) }
+{
+    match side {
+        Side::Input(_) => true,
+        Side::Filter(_, _, s) | Side::Dedup(s) => is_tower(s),
+        Side::Proj(_, _)
+        | Side::InnerJoin(_, _, _, _)
+        | Side::LeftJoin(_, _, _, _)
+        | Side::InSub(_, _, _) => false,
+    }
+}
 
 /// The tower under one test more, the last.
 fn with_test(tower: Tower, test: Test) -> Result<Tower, AllocError>

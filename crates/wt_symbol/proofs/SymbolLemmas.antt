@@ -1,10 +1,10 @@
 -- What the lawful tests say of symbols: small leaves, and an anchor for each list.
-use Rattle.std.proofs.Common.{◌≡◌, ℕ, zero, suc, ◌+◌, ◌*◌, ◌<◌, ◌≤◌, Bool, true, false, List, [], ◌∷◌, ◌++◌, length, Some, None, refl, sym, ap, ◌∙◌, arith, length-append}
-use Rattle.std.specs.Prelude.{◌==◌, ◌&&◌, ◌||◌, nat_lt, nat_le, if◌then◌else◌}
+use Rattle.std.proofs.Common.{◌≡◌, ℕ, suc, ◌+◌, ◌*◌, ◌<◌, ◌≤◌, Bool, true, false, List, [], ◌∷◌, ◌++◌, length, Some, None, refl, arith, length-append}
+use Rattle.std.specs.Prelude.{◌==◌, ◌&&◌, ◌||◌, nat_le}
 use Rattle.std.proofs.lemmas.Grind.{common_steps}
 use Rattle.wt_symbol.specs.declared.fault.PairFault.TheVariants.{Weight}
 use Rattle.wt_symbol.specs.Sides.{SideTree, input, proj, filtered, inner_join, left_join, in_sub, dedup, PairTree, leaves_of, lists_of, preds_of, size_of, weight_of}
-use Rattle.wt_symbol.specs.Lawful.{occurs, counts_up, all_in, all_different, is_numbered, uses_symbols_of, has_lawful_symbols, has_lawful_sizes, has_lawful_anchors, has_lawful_weights, has_lawful_roots, stands, fault_of, IsLawful}
+use Rattle.wt_symbol.specs.Lawful.{occurs, counts_up, all_in, all_different, is_numbered, uses_symbols_of, has_lawful_symbols, has_lawful_sizes, has_lawful_anchors, has_lawful_weights, stands, fault_of, IsLawful}
 use Rattle.wt_symbol.specs.Heads.{HasAnchors, HasSmallLeaves}
 
 -- each number of the list is below m

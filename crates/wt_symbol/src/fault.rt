@@ -1,6 +1,6 @@
 //! The first of the tests that a pair does not pass.
 ghost use Rattle.std.specs.Prelude.{◌≡◌, ℕ, ◌<◌, ◌≤◌, ◌&&◌, ◌==◌, true, false, List, IfOk, IsNone, MatchOption, ◌↔◌};
-ghost use Rattle.wt_symbol.specs.Sides.{tree_of, pair_of, leaves_of, lists_of, preds_of, size_of};
+ghost use Rattle.wt_symbol.specs.Sides.{input, proj, inner_join, tree_of, pair_of, leaves_of, lists_of, preds_of, size_of};
 ghost use Rattle.wt_symbol.specs.Lawful.{occurs, counts_up, all_in, all_different, is_numbered, uses_symbols_of, has_lawful_symbols, has_lawful_sizes, has_lawful_anchors, has_lawful_weights, has_lawful_roots, is_proj, stands, visible_leaves, fault_of, IsLawful};
 ghost use Rattle.wt_symbol.specs.Heads.{HasAnchors, HasSmallLeaves, IsMask};
 
@@ -216,17 +216,23 @@ mod tests {
     use crate::head::{Part, PartCols, segments, visible};
     use std::test::Fail;
 
-    fn input(alloc: Global, r: u8) -> Result<Box<Side>, AllocError> {
+    fn input(alloc: Global, r: u8) -> Result<Box<Side>, AllocError>
+        ensures { IfOk result (λ s. tree_of s.value ≡ input r) }
+    {
         Ok(Box::new(alloc, Side::Input(r))?)
     }
 
     /// A list of anchors.
-    fn anchored(alloc: Global, leaves: &[u8]) -> Result<Anchors, AllocError> {
+    fn anchored(alloc: Global, leaves: &[u8]) -> Result<Anchors, AllocError>
+        ensures { IfOk result (λ anchors. anchors ≡ leaves.now) }
+    {
         Ok(Anchors::from_vec(Vec::from_slice(alloc, leaves)?))
     }
 
     /// A join of r0 with a projection of r1.
-    fn join(alloc: Global) -> Result<Side, AllocError> {
+    fn join(alloc: Global) -> Result<Side, AllocError>
+        ensures { IfOk result (λ s. tree_of s ≡ inner_join 0 1 (input 0) (proj 2 (input 1))) }
+    {
         let right = Side::Proj(2, input(alloc, 1)?);
         Ok(Side::InnerJoin(0, 1, input(alloc, 0)?, Box::new(alloc, right)?))
     }

@@ -1,10 +1,7 @@
-pub mod ReadingLaws
-pub mod LineLaws
-pub mod StatementLaws
+pub mod ItemLaws
 pub mod Putting
 pub mod Files
 pub mod LinesOf
-pub mod RewritingLaws
-pub mod LexemeLaws
+pub mod StatementLines
 pub mod Statuses
 pub mod QueryLaws

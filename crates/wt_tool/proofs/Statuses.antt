@@ -1,17 +1,22 @@
 -- What the clause of a run says of its statuses one by one.
-use Rattle.std.proofs.Common.{◌≡◌, ◌≢◌, ◌∙◌, ℕ, ◌≤◌, List, ◌⊎◌, true, false, refl, sym, cond, arith, inl, inr, rules}
+use Rattle.std.proofs.Common.{◌≡◌, ◌≢◌, ◌∙◌, ℕ, ◌≤◌, List, ◌⊎◌, Bool, true, false, sym, cond, arith, rules}
 use Rattle.std.proofs.lemmas.Result.{IfOk-from_err}
-use Rattle.std.specs.Prelude.{Some, None, Ok, Err, IsErr, MatchResult}
+use Rattle.std.specs.Prelude.{Ok, Err, IsErr, MatchResult, Result}
 use Rattle.std.specs.Io.KnownBytes.{append_known}
 use Rattle.std.specs.declared.option.Option.{Option}
 use Rattle.wt_tool.specs.declared.input.Input.{Input}
 use Rattle.wt_tool.specs.declared.words.UsageFault.{UsageFault}
 use Rattle.wt_tool.specs.Answers.{Answers, CommandOutcome, RunOutcome, usage}
 use Rattle.wt_tool.specs.Outcomes.{AppendsPrefix, Ends, Outcome}
-use Rattle.wt_tool.specs.Reading.{table_in, queries_in}
-use Rattle.wt_tool.specs.Rewriting.{is_empty_rules, refused, rewriting, with_queries, with_table}
+use Rattle.wt_ddl.specs.Schemas.{schema_of}
+use Rattle.wt_ddl.specs.declared.fault.DdlError.{DdlError}
+use Rattle.wt_ddl.specs.declared.fault.DdlError.TheVariants as ddl
+use Rattle.wt_grammar.specs.Statements.{File, file_of}
+use Rattle.wt_lex.specs.declared.token.LexFault.{LexFault}
+use Rattle.wt_schema.specs.declared.schema.Table.{Table}
+use Rattle.wt_tool.specs.declared.input.Input.TheVariants.{Whole, TooLong}
+use Rattle.wt_tool.specs.Rewriting.{any_refused, file_lines, is_empty_rules, not_built, rewriting, status_of, with_file, with_queries, with_rules, with_schema}
 use Rattle.wt_tool.specs.Words.{Command, Names, Rewrite, command_of}
-use Rattle.wt_tool.specs.declared.table.Table.{Table}
 
 -- what follows for the outcome holds of the outcome
 of_command : (told : List ℕ → Option (List ℕ)) (P Q : Outcome → Type 0) → ((o : Outcome) → P o → Q o) → (command : Command) → CommandOutcome told P command → CommandOutcome told Q command
@@ -24,30 +29,42 @@ of_run told words P Q f h =
       | Err fault ↦ λ k. f (usage fault) k
     ] h
 
--- the status of `rewrite` is 0 or 2
-queries_status : (names : Names) (table : Table) (found : Option (List (List ℕ))) → ((with_queries names table found).status ≡ 0) ⊎ ((with_queries names table found).status ≡ 2)
-queries_status names table (Some queries) = inl refl
-queries_status names table None = inr refl
+-- a command's status is none of the words', and there is none past 6
+abbrev Fine : ℕ → Type 0
+Fine n = (n ≤ 6) × (n ≢ 1)
 
-table_status : (names : Names) (queries : Input) (found : Option Table) → ((with_table names queries found).status ≡ 0) ⊎ ((with_table names queries found).status ≡ 2)
-table_status names queries (Some table) = queries_status names table (queries_in table queries)
-table_status names queries None = inr refl
+two_fine : Fine 2
+two_fine = (omega arith, λ h. omega arith)
 
-rewriting_status : (names : Names) (rules schema queries : Input) → ((rewriting names rules schema queries).status ≡ 0) ⊎ ((rewriting names rules schema queries).status ≡ 2)
-rewriting_status names rules schema queries =
-    elim (is_empty_rules rules) as (λ b. ((cond b (with_table names queries (table_in schema)) (refused names.rules)).status ≡ 0) ⊎ ((cond b (with_table names queries (table_in schema)) (refused names.rules)).status ≡ 2)) [
-      | true ↦ table_status names queries (table_in schema)
-      | false ↦ inr refl
-    ]
+lines_fine : (refused : Bool) → Fine (status_of refused)
+lines_fine true = (omega arith, λ h. omega arith)
+lines_fine false = (omega arith, λ h. omega arith)
 
--- a command's status is none of the words'
-small : (n : ℕ) → (n ≡ 0) ⊎ (n ≡ 2) → (n ≤ 6) × (n ≢ 1)
-small n (inl e) = (omega arith, λ h. omega arith)
-small n (inr e) = (omega arith, λ h. omega arith)
+file_fine : (names : Names) (tables : List Table) (file : Result File (LexFault × ℕ)) → Fine (with_file names tables file).status
+file_fine names tables (Ok file) = lines_fine (any_refused (file_lines tables file))
+file_fine names tables (Err fault) = two_fine
+
+queries_fine : (names : Names) (tables : List Table) (queries : Input) → Fine (with_queries names tables queries).status
+queries_fine names tables (Whole bytes) = file_fine names tables (file_of bytes)
+queries_fine names tables TooLong = two_fine
+
+schema_fine : (names : Names) (queries : Input) (read : Result (List Table) DdlError) → Fine (with_schema names queries read).status
+schema_fine names queries (Ok tables) = queries_fine names tables queries
+schema_fine names queries (Err (ddl.Fault fault at)) = two_fine
+schema_fine names queries (Err (ddl.Lex fault at)) = two_fine
+schema_fine names queries (Err ddl.Memory) = two_fine
+
+rules_fine : (names : Names) (schema queries : Input) → Fine (with_rules names schema queries).status
+rules_fine names (Whole bytes) queries = schema_fine names queries (schema_of bytes)
+rules_fine names TooLong queries = two_fine
+
+rewriting_fine : (names : Names) (rules schema queries : Input) → Fine (rewriting names rules schema queries).status
+rewriting_fine names rules schema queries =
+    elim (is_empty_rules rules) as (λ b. Fine (cond b (with_rules names schema queries) (not_built names.rules)).status) [ true ↦ rules_fine names schema queries | false ↦ two_fine ]
 
 -- what follows for every outcome of a command
 any_command : (told : List ℕ → Option (List ℕ)) (P : Outcome → Type 0) (Q : Type 0) → ((o : Outcome) → (o.status ≤ 6) × (o.status ≢ 1) → P o → Q) → (command : Command) → CommandOutcome told P command → Q
-any_command told P Q f (Rewrite names) h = f (rewriting names h.0 h.1 h.2) (small _ (rewriting_status names h.0 h.1 h.2)) h.4
+any_command told P Q f (Rewrite names) h = f (rewriting names h.0 h.1 h.2) (rewriting_fine names h.0 h.1 h.2) h.4
 
 -- what follows for every outcome
 any_run : (told : List ℕ → Option (List ℕ)) (words : List (List ℕ)) (P : Outcome → Type 0) (Q : Type 0) → ((o : Outcome) → o.status ≤ 6 → P o → Q) → RunOutcome told words P → Q

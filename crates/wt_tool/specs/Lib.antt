@@ -2,13 +2,11 @@ pub mod Causes
 pub mod Inputs
 pub mod Outcomes
 pub mod Words
-pub mod Tables
+pub mod Names
+pub mod FaultNames
 pub mod Queries
-pub mod Reading
-pub mod Fronts
-pub mod Finding
-pub mod Lines
 pub mod Printing
+pub mod LineItems
 pub mod Rewriting
 pub mod Laws
 pub mod Answers

@@ -1,75 +1,82 @@
--- The tree of a query over one table, its rows on a database, and its output names.
-use Rattle.std.specs.Prelude.{ℕ, ◌&&◌, Bool, List, map, get_or, codes, if◌then◌else◌, Some, None, is_some, unwrap_or}
+-- Queries `SELECT T.c, .. FROM T` over a table of a schema: their rows on a database, their output names, and what becomes of them.
+use Rattle.std.specs.Prelude.{ℕ, ◌&&◌, Bool, false, List, [], map, get_or, codes, if◌then◌else◌, Some, None, is_some, unwrap_or, position, slice_get, option_and_then}
 use Rattle.std.specs.List.{list_all}
 use Rattle.std.specs.Option.{option_map_or}
 use Rattle.std.specs.Str.{bytes_eq}
 use Rattle.std.specs.declared.option.Option.{Option}
+use Rattle.wt_ast.specs.Tree.{QueryTree, select, table, no_filter}
+use Rattle.wt_ast.specs.declared.tree.ColumnName.{ColumnName}
+use Rattle.wt_ast.specs.declared.tree.Item.{Item}
+use Rattle.wt_ast.specs.declared.tree.Item.TheVariants as items
+use Rattle.wt_schema.specs.declared.schema.Table.{Table}
+use Rattle.wt_schema.specs.Satisfying.{rows_of}
 use Rattle.wt_value.specs.Values.{Tuple}
 use Rattle.wt_value.specs.declared.value.Value.{Value}
 use Rattle.wt_value.specs.declared.value.Value.TheVariants.{Null}
-use Rattle.wt_tool.specs.declared.table.Table.{Table}
-use Rattle.wt_tool.specs.Tables.{place_of, column_name}
+use Rattle.wt_tool.specs.Names.{is_bare}
 
--- `QUALIFIER.COLUMN`, with the name after AS where one is written
-pub record Item : Type 0 where
-  pub qualifier : List ℕ
-  pub column : List ℕ
-  pub output : Option (List ℕ)
+-- the place of the column of this name in its table, and of the table of this name in its schema
+abbrev pub column_place : Table → List ℕ → Option ℕ
+column_place t name = position (λ c. bytes_eq name c.name) t.columns
 
--- `SELECT ITEMS FROM TABLE`, with the table's alias where one is written
-pub record Query : Type 0 where
-  pub items : List Item
-  pub table : List ℕ
-  pub alias : Option (List ℕ)
+abbrev pub table_place : List Table → List ℕ → Option ℕ
+table_place tables name = position (λ t. bytes_eq name t.name) tables
 
--- the name by which items speak of the table
-abbrev pub alias_of : Query → List ℕ
-alias_of query = unwrap_or query.alias query.table
+-- The rows of a query on a database, as far as queries over one table go. An item is the value of its column in a row of the table
+-- that FROM names, where it speaks of this table: by the alias, or by the table's name where no alias is written.
 
--- the value of an item in a row of the table: that of the named column
-abbrev pub item_value : Table → Query → Tuple → Item → Value
-item_value table query row item =
-    if bytes_eq item.qualifier (alias_of query) then option_map_or (λ place. get_or row place Null) (place_of table item.column) Null else Null
+abbrev pub column_value : Table → List ℕ → Tuple → ColumnName → Value
+column_value t alias row column =
+    if bytes_eq (unwrap_or column.table alias) alias then option_map_or (λ place. get_or row place Null) (column_place t column.name) Null else Null
 
--- the rows of the query where `rows` are the table's rows: of each the items' values
-abbrev pub query_rows : Table → Query → List Tuple → List Tuple
-query_rows table query rows = map (λ row. map (item_value table query row) query.items) rows
+abbrev pub item_value : Table → List ℕ → Tuple → Item → Value
+item_value t alias row (items.Column column output) = column_value t alias row column
+item_value t alias row _ = Null
 
--- the name of an output: that after AS, else the column's own
+abbrev pub rows_in : List ℕ → List Item → List Tuple → Option Table → List Tuple
+rows_in alias chosen rows None = []
+rows_in alias chosen rows (Some t) = map (λ row. map (item_value t alias row) chosen) rows
+
+abbrev pub rows_at : List Table → List (List Tuple) → List ℕ → List Item → Option ℕ → List Tuple
+rows_at tables base alias chosen None = []
+rows_at tables base alias chosen (Some place) = rows_in alias chosen (rows_of base place) (slice_get tables place)
+
+abbrev pub query_rows : List Table → List (List Tuple) → QueryTree → List Tuple
+query_rows tables base (select distinct chosen (table name alias at alias_at) no_filter) = rows_at tables base (unwrap_or alias name) chosen (table_place tables name)
+query_rows tables base _ = []
+
+-- the output names: those after AS, else the columns' own
 abbrev pub output_name : Item → List ℕ
-output_name item = unwrap_or item.output item.column
+output_name (items.Column column output) = unwrap_or output column.name
+output_name _ = []
 
-abbrev pub output_names : Query → List (List ℕ)
-output_names query = map output_name query.items
+abbrev pub output_names : QueryTree → List (List ℕ)
+output_names (select distinct chosen from filter) = map output_name chosen
 
--- whether an item is a column of the table, under this alias
-abbrev pub is_column : Table → List ℕ → Item → Bool
-is_column table alias item = bytes_eq item.qualifier alias && is_some (place_of table item.column)
+-- Which queries are rewritten: `SELECT T.c, .. FROM T`, T a table of the schema, each c one of its columns, all names bare.
 
--- whether the query is one over this table: each item is a column of it
-abbrev pub is_over : Table → Query → Bool
-is_over table query = bytes_eq query.table table.name && list_all (is_column table (alias_of query)) query.items
+abbrev pub names_column : Table → List ℕ → ColumnName → Bool
+names_column t name column = bytes_eq (unwrap_or column.table []) name && is_some (column_place t column.name) && is_bare column.name
 
--- `T.c` of the column at a place
-abbrev pub item_selecting : Table → ℕ → Item
-item_selecting table place = record { qualifier = table.name; column = column_name table place; output = None }
+abbrev pub is_item_of : Table → List ℕ → Item → Bool
+is_item_of t name (items.Column column None) = names_column t name column
+is_item_of t name _ = false
 
--- the query `SELECT T.c, .. FROM T` of the columns at these places
-abbrev pub selecting : Table → List ℕ → Query
-selecting table places = record {
-  items = map (item_selecting table) places;
-  table = table.name;
-  alias = None;
-}
+abbrev pub are_items_of : List ℕ → List Item → Option Table → Bool
+are_items_of name chosen None = false
+are_items_of name chosen (Some t) = list_all (is_item_of t name) chosen
 
--- `q0.c AS name`
-abbrev pub item_rewritten : Item → Item
-item_rewritten item = record { qualifier = codes "q0"; column = item.column; output = Some (output_name item) }
+abbrev pub is_rewritable : List Table → QueryTree → Bool
+is_rewritable tables (select false chosen (table name None at alias_at) no_filter) =
+    is_bare name && are_items_of name chosen (option_and_then (slice_get tables) (table_place tables name))
+is_rewritable tables _ = false
 
 -- the same query with the table under the alias q0, and each output under its name
-abbrev pub rewritten : Query → Query
-rewritten query = record {
-  items = map item_rewritten query.items;
-  table = query.table;
-  alias = Some (codes "q0");
-}
+abbrev pub item_rewritten : Item → Item
+item_rewritten (items.Column column output) =
+    items.Column (record { table = Some (codes "q0"); name = column.name; at = column.at }) (Some (unwrap_or output column.name))
+item_rewritten item = item
+
+abbrev pub rewritten : QueryTree → QueryTree
+rewritten (select distinct chosen (table name alias at alias_at) filter) = select distinct (map item_rewritten chosen) (table name (Some (codes "q0")) at alias_at) filter
+rewritten query = query

@@ -1,26 +1,25 @@
 //! `rewrite`, over three files.
-ghost use Rattle.std.specs.Prelude.{◌≡◌, ◌≤◌, ◌^◌, ℕ, List, IfOk, string_bytes, length};
+ghost use Rattle.std.specs.Prelude.{◌≡◌, ◌<◌, ◌≤◌, length, ℕ, List, Some, IfOk, string_bytes, slice_get};
+ghost use Rattle.wt_ddl.specs.Schemas.{schema_of};
+ghost use Rattle.wt_grammar.specs.Statements.{Statement, file_of};
 ghost use Rattle.wt_io.specs.Causes.{Rose};
-ghost use Rattle.wt_lex.specs.Tokens.{lexed};
 ghost use Rattle.wt_tool.specs.Answers.{AreInputs, WithInputs};
-ghost use Rattle.wt_tool.specs.Outcomes.{Ends, Puts, Runs, StopsReading};
-ghost use Rattle.wt_tool.specs.Reading as reading;
+ghost use Rattle.wt_tool.specs.Outcomes.{Ends, Runs, StopsReading};
 ghost use Rattle.wt_tool.specs.Rewriting as spec;
 ghost use Rattle.wt_tool.specs.Words.{names_of};
 
+use crate::fault_names::{lexical_name, query_name, schema_name};
 use crate::input::{Input, read_input};
-use crate::lexeme::lexemes_of;
-use crate::line::line_of;
+use crate::line::{Line, query_line, refusal_line};
 use crate::put::put;
-use crate::reading::read_table;
-use crate::statements::{Places, read_statements};
 use crate::stop::Stop;
-use crate::table::Table;
 use crate::words::Names;
 use std::alloc::{AllocError, Global};
+use wt_ddl::{DdlError, read_schema};
 use wt_io::{Sink, Store};
-use wt_lex::{LexError, Tokens, lex};
-use wt_value::Seq;
+use wt_lex::LexError;
+use wt_parse::{Queries, QueryError, read_queries};
+use wt_schema::Schema;
 
 const EMPTY_RULES: &[u8] = b"wetune-rules 1 steps=8\nend 0\n";
 
@@ -35,113 +34,163 @@ impl Input {
     }
 }
 
-// The tokens of a file, or none where it does not fall into tokens.
-fn tokens_of(alloc: Global, bytes: &[u8]) -> Result<Option<Tokens>, AllocError>
-    ensures { IfOk result (λ found. found ≡ reading.tokens_in (lexed bytes.now)) }
-{
-    match lex(alloc, bytes) {
-        Ok(tokens) => Ok(Some(tokens)),
-        Err(LexError::Memory) => Err(AllocError),
-        Err(LexError::Fault(_, _)) => Ok(None),
-    }
-}
-
-fn table_in(alloc: Global, schema: &Input) -> Result<Option<Table>, AllocError>
-    ensures { IfOk result (λ found. found ≡ reading.table_in schema.now) }
-{
-    let Input::Whole(bytes) = schema else {
-        return Ok(None);
-    };
-    let bytes = bytes.as_slice();
-    match tokens_of(alloc, bytes)? {
-        Some(tokens) => read_table(alloc, &lexemes_of(alloc, bytes, &tokens)?),
-        None => Ok(None),
-    }
-}
-
-fn queries_in(
-    alloc: Global,
-    table: &Table,
-    queries: &Input,
-) -> Result<Option<Seq<Places>>, AllocError>
-    ensures { IfOk result (λ found. found ≡ reading.queries_in table.now queries.now) }
-{
-    let Input::Whole(bytes) = queries else {
-        return Ok(None);
-    };
-    let bytes = bytes.as_slice();
-    match tokens_of(alloc, bytes)? {
-        Some(tokens) => read_statements(alloc, table, bytes, &tokens),
-        None => Ok(None),
-    }
-}
-
-fn fault_line(alloc: Global, name: &str) -> Result<String, AllocError>
-    ensures { IfOk result (λ text. string_bytes text ≡ spec.fault_line name.now) }
+fn not_built_text(alloc: Global, name: &str) -> Result<String, AllocError>
+    ensures { IfOk result (λ text. string_bytes text ≡ (spec.not_built name.now).text) }
 {
     format!(in alloc; "fault {name} NotBuilt\n")
 }
 
-fn put_fault<K: Sink>(alloc: Global, name: &str, sink: &mut K) -> Result<u8, Stop>
-    ensures { Runs ⊥ (Rose (K.faults sink.old) (K.faults sink.new)) (K.written sink.old) (K.written sink.new) (spec.refused name.now) result }
+fn put_not_built<K: Sink>(alloc: Global, name: &str, sink: &mut K) -> Result<u8, Stop>
+    ensures { Runs ⊥ (Rose (K.faults sink.old) (K.faults sink.new)) (K.written sink.old) (K.written sink.new) (spec.not_built name.now) result }
 {
-    let Ok(text) = fault_line(alloc, name) else {
+    let Ok(text) = not_built_text(alloc, name) else {
         return Err(Stop::Memory);
     };
     put(sink, text.as_bytes())?;
     Ok(2)
 }
 
-fn put_line<K: Sink>(
-    alloc: Global,
-    table: &Table,
-    places: &[usize],
-    sink: &mut K,
-) -> Result<(), Stop>
-    ensures puts { Puts (Rose (K.faults sink.old) (K.faults sink.new)) (K.written sink.old) (K.written sink.new) (spec.line table.now places.now) result }
-    ensures later { K.faults sink.old ≤ K.faults sink.new }
+fn fault_text(alloc: Global, name: &str, at: u32, kind: &str) -> Result<String, AllocError>
+    ensures { IfOk result (λ text. string_bytes text ≡ (spec.fault_at name.now at kind.now).text) }
 {
-    let Ok(text) = line_of(alloc, table, places) else {
-        return Err(Stop::Memory);
-    };
-    put(sink, &text)
+    format!(in alloc; "fault {name} offset {at} {kind}\n")
 }
 
-// A line for each statement, one write each.
-fn put_lines<K: Sink>(
+fn put_fault<K: Sink>(
     alloc: Global,
-    table: &Table,
-    queries: &[Places],
-    sink: &mut K,
-) -> Result<(), Stop>
-    ensures { Puts (Rose (K.faults sink.old) (K.faults sink.new)) (K.written sink.old) (K.written sink.new) (spec.lines table.now queries.now) result }
-{
-    'queries: for places in queries {
-        put_line(alloc, table, places.as_slice(), sink)?;
-    }
-    Ok(())
-}
-
-// What the three files give: the fault of the first that is of another form, or a line for each statement.
-fn answer<K: Sink>(
-    alloc: Global,
-    names: &Names<'_>,
-    files: &Files,
+    name: &str,
+    at: u32,
+    kind: &str,
     sink: &mut K,
 ) -> Result<u8, Stop>
-    ensures { Runs ⊥ (Rose (K.faults sink.old) (K.faults sink.new)) (K.written sink.old) (K.written sink.new) (spec.rewriting (names_of names.now) files.now.rules files.now.schema files.now.queries) result }
+    ensures { Runs ⊥ (Rose (K.faults sink.old) (K.faults sink.new)) (K.written sink.old) (K.written sink.new) (spec.fault_at name.now at kind.now) result }
 {
-    if !files.rules.is_empty_rules() {
-        return put_fault(alloc, names.rules, sink);
+    let Ok(text) = fault_text(alloc, name, at, kind) else {
+        return Err(Stop::Memory);
+    };
+    put(sink, text.as_bytes())?;
+    Ok(2)
+}
+
+fn put_too_long<K: Sink>(alloc: Global, name: &str, sink: &mut K) -> Result<u8, Stop>
+    ensures { Runs ⊥ (Rose (K.faults sink.old) (K.faults sink.new)) (K.written sink.old) (K.written sink.new) (spec.too_long name.now) result }
+{
+    put_fault(alloc, name, 16_777_216, "TooLong", sink)
+}
+
+fn statement_line(
+    alloc: Global,
+    schema: &Schema,
+    queries: &Queries,
+    n: u32,
+) -> Result<Line, AllocError>
+    requires { n < length queries.now.statements }
+    ensures { IfOk result (λ line. (s : Statement) → slice_get queries.now.statements n ≡ Some s → line ≡ spec.statement_line schema.now.tables queries.now.bytes s) }
+{
+    match queries.get(alloc, n) {
+        Ok(query) => query_line(alloc, schema, &query, queries.begin(n)),
+        Err(QueryError::Refused(fault, at)) => refusal_line(alloc, query_name(fault), at),
+        Err(QueryError::Lex(fault, at)) => refusal_line(alloc, lexical_name(fault), at),
+        Err(QueryError::Memory) => Err(AllocError),
     }
-    let Some(table) = table_in(alloc, &files.schema)? else {
-        return put_fault(alloc, names.schema, sink);
+}
+
+// A line for each statement, one write each. It answers whether one of them was refused.
+fn put_lines<K: Sink>(
+    alloc: Global,
+    schema: &Schema,
+    queries: &Queries,
+    sink: &mut K,
+) -> Result<bool, Stop>
+    requires { length queries.now.statements ≤ 16777216 }
+    ensures { spec.PutsLines (Rose (K.faults sink.old) (K.faults sink.new)) (K.written sink.old) (K.written sink.new) (spec.file_lines schema.now.tables queries.now) result }
+{
+    let mut refused = false;
+    'statements: for n in 0..queries.count() {
+        let line = statement_line(alloc, schema, queries, n)?;
+        put(sink, line.text.as_slice())?;
+        refused |= line.refused;
+    }
+    Ok(refused)
+}
+
+fn status_of(refused: bool) -> u8
+    ensures { result ≡ spec.status_of refused }
+{
+    if refused { 4 } else { 0 }
+}
+
+// The lines of the statements, and the status.
+fn put_file<K: Sink>(
+    alloc: Global,
+    schema: &Schema,
+    queries: &Queries,
+    sink: &mut K,
+) -> Result<u8, Stop>
+    requires { length queries.now.statements ≤ 16777216 }
+    ensures { Runs ⊥ (Rose (K.faults sink.old) (K.faults sink.new)) (K.written sink.old) (K.written sink.new) (spec.lines_outcome (spec.file_lines schema.now.tables queries.now)) result }
+{
+    let refused = put_lines(alloc, schema, queries, sink)?;
+    Ok(status_of(refused))
+}
+
+// The statements over a schema that was read.
+fn put_queries<K: Sink>(
+    alloc: Global,
+    names: &Names<'_>,
+    schema: &Schema,
+    queries: &Input,
+    sink: &mut K,
+) -> Result<u8, Stop>
+    ensures { Runs ⊥ (Rose (K.faults sink.old) (K.faults sink.new)) (K.written sink.old) (K.written sink.new) (spec.with_queries (names_of names.now) schema.now.tables queries.now) result }
+{
+    let Input::Whole(bytes) = queries else {
+        return put_too_long(alloc, names.queries, sink);
     };
-    let Some(queries) = queries_in(alloc, &table, &files.queries)? else {
-        return put_fault(alloc, names.queries, sink);
+    match read_queries(alloc, bytes.as_slice()) {
+        Ok(queries) => put_file(alloc, schema, &queries, sink),
+        Err(LexError::Fault(fault, at)) => put_fault(
+            alloc,
+            names.queries,
+            at,
+            lexical_name(fault),
+            sink,
+        ),
+        Err(LexError::Memory) => Err(Stop::Memory),
+    }
+}
+
+// The schema and the statements.
+fn put_schema<K: Sink>(
+    alloc: Global,
+    names: &Names<'_>,
+    schema: &Input,
+    queries: &Input,
+    sink: &mut K,
+) -> Result<u8, Stop>
+    ensures { Runs ⊥ (Rose (K.faults sink.old) (K.faults sink.new)) (K.written sink.old) (K.written sink.new) (spec.with_rules (names_of names.now) schema.now queries.now) result }
+{
+    let Input::Whole(bytes) = schema else {
+        return put_too_long(alloc, names.schema, sink);
     };
-    put_lines(alloc, &table, queries.as_slice(), sink)?;
-    Ok(0)
+    match read_schema(alloc, bytes.as_slice()) {
+        Ok(schema) => put_queries(alloc, names, &schema, queries, sink),
+        Err(DdlError::Fault(fault, at)) => put_fault(
+            alloc,
+            names.schema,
+            at,
+            schema_name(fault),
+            sink,
+        ),
+        Err(DdlError::Lex(fault, at)) => put_fault(
+            alloc,
+            names.schema,
+            at,
+            lexical_name(fault),
+            sink,
+        ),
+        Err(DdlError::Memory) => Err(Stop::Memory),
+    }
 }
 
 // The three files.
@@ -150,6 +199,22 @@ struct Files {
     rules: Input,
     schema: Input,
     queries: Input,
+}
+
+// What the three files give: the fault of the first that is refused, or a line for each statement.
+fn answer<K: Sink>(
+    alloc: Global,
+    names: &Names<'_>,
+    files: &Files,
+    sink: &mut K,
+) -> Result<u8, Stop>
+    ensures { Runs ⊥ (Rose (K.faults sink.old) (K.faults sink.new)) (K.written sink.old) (K.written sink.new) (spec.rewriting (names_of names.now) files.now.rules files.now.schema files.now.queries) result }
+{
+    if files.rules.is_empty_rules() {
+        put_schema(alloc, names, &files.schema, &files.queries, sink)
+    } else {
+        put_not_built(alloc, names.rules, sink)
+    }
 }
 
 // Reads the three files, in their order.

@@ -12,12 +12,30 @@ const NO_RULES: &[u8] = b"wetune-rules 1 steps=8\nend 0\n";
 
 const SCHEMA: &[u8] = b"CREATE TABLE t (a INTEGER, b INTEGER);";
 
+const ORDERS: &[u8] = b"CREATE TABLE cust (id INTEGER PRIMARY KEY, name TEXT);
+CREATE TABLE o (id INTEGER PRIMARY KEY, c INTEGER REFERENCES cust (id), d INTEGER NOT NULL REFERENCES cust (id), k INTEGER UNIQUE);
+";
+
 const QUERY: &[u8] = b"SELECT t.a, t.b FROM t;";
 
 const LINE: &[u8] = b"SELECT q0.a AS a, q0.b AS b FROM t AS q0;\n";
 
 const TWO_LINES: &[u8] =
     b"SELECT q0.a AS a, q0.b AS b FROM t AS q0;\nSELECT q0.a AS a, q0.b AS b FROM t AS q0;\n";
+
+const REFUSED: &[u8] = b"SELECT o.id FROM o ORDER BY o.id;
+SELECT o.id FROM o WHERE o.c NOT IN (SELECT cust.id FROM cust);
+SELECT o.id FROM o WHERE EXISTS (SELECT cust.id FROM cust);
+SELECT o.id FROM o WHERE o.k = 1 OR o.c IN (SELECT cust.id FROM cust);
+SELECT o.k FROM o;
+";
+
+const REFUSED_LINES: &[u8] = b"-- refused OrderBy at 19
+-- refused NotInSubquery at 63
+-- refused Exists at 123
+-- refused InUnderOr at 198
+SELECT q0.k AS k FROM o AS q0;
+";
 
 fn file(alloc: Global, name: &str, bytes: &[u8]) -> io::Result<MemFile> {
     Ok(MemFile {
@@ -29,7 +47,7 @@ fn file(alloc: Global, name: &str, bytes: &[u8]) -> io::Result<MemFile> {
 fn store(alloc: Global, schema: &[u8], queries: &[u8], failing_read: u64) -> io::Result<MemStore> {
     let mut files = Files::new(alloc);
     files.push(file(alloc, "A", NO_RULES)?)?;
-    files.push(file(alloc, "X", schema)?)?;
+    files.push(file(alloc, "S", schema)?)?;
     files.push(file(alloc, "Q", queries)?)?;
     Ok(MemStore::new(files, 65_536, calls(alloc, failing_read)?))
 }
@@ -61,7 +79,7 @@ struct Case {
 }
 
 const PLAIN: Case = Case {
-    words: "rewrite A X Q",
+    words: "rewrite A S Q",
     schema: SCHEMA,
     queries: QUERY,
     failing_read: 0,
@@ -70,12 +88,21 @@ const PLAIN: Case = Case {
     written: LINE,
 };
 
+fn answers<R: Threads + Wait + Sync + Abort + AllocGlobal>(
+    rt: &R,
+    names: &str,
+    store: &mut MemStore,
+    sink: &mut MemSink,
+) -> Result<u8, Fail> {
+    let words = words(rt.alloc(), names)?;
+    Ok(wetune(rt, rt.alloc(), &words, store, sink, &NoGate))
+}
+
 fn check<R: Threads + Wait + Sync + Abort + AllocGlobal>(rt: &R, case: &Case) -> Result<(), Fail> {
     let alloc = rt.alloc();
-    let words = words(alloc, case.words)?;
     let mut store = store(alloc, case.schema, case.queries, case.failing_read)?;
     let mut sink = MemSink::new(alloc, 4096, calls(alloc, case.failing_write)?)?;
-    let status = wetune(rt, alloc, &words, &mut store, &mut sink, &NoGate);
+    let status = answers(rt, case.words, &mut store, &mut sink)?;
     assert_eq!(rt; status, case.status, "{}", case.words);
     assert_eq!(rt; sink.as_bytes(), case.written, "{}", case.words);
     Ok(())
@@ -86,9 +113,12 @@ fn rewrites_statements(rt: HostRuntime) -> Result<(), Fail> {
     check(&rt, &PLAIN)?;
     for (queries, written) in [
         (b"".as_slice(), b"".as_slice()),
-        (b" ;; \n", b""),
+        (b" ;; \n-- nothing\n", b""),
         (b"SELECT t.a, t.b FROM t;SELECT t.a, t.b FROM t;", TWO_LINES),
-        (b"select T.B from T", b"SELECT q0.b AS b FROM t AS q0;\n"),
+        (
+            b"select T.B from /* a comment */ T",
+            b"SELECT q0.b AS b FROM t AS q0;\n",
+        ),
     ] {
         check(
             &rt,
@@ -103,36 +133,92 @@ fn rewrites_statements(rt: HostRuntime) -> Result<(), Fail> {
 }
 
 #[test]
-fn refuses_files(rt: HostRuntime) -> Result<(), Fail> {
-    for queries in [
-        b"SELECT t.a FROM t WHERE t.a = 1;".as_slice(),
-        b"SELECT t.c FROM t;",
-        b"SELECT u.a FROM t;",
-        b"SELECT t.a, FROM t;",
-        b"'",
+fn refuses_statements(rt: HostRuntime) -> Result<(), Fail> {
+    check(
+        &rt,
+        &Case {
+            schema: ORDERS,
+            queries: REFUSED,
+            status: 4,
+            written: REFUSED_LINES,
+            ..PLAIN
+        },
+    )?;
+    for (queries, written) in [
+        (
+            b"SELECT t.a FROM t WHERE t.a = 1;".as_slice(),
+            b"-- refused NotBuilt at 0\n".as_slice(),
+        ),
+        (b" SELECT t.c FROM t;", b"-- refused NotBuilt at 1\n"),
+        (b"SELECT u.a FROM t;", b"-- refused NotBuilt at 0\n"),
+        (b"SELECT a FROM t;", b"-- refused NotBuilt at 0\n"),
+        (b"SELECT t.a AS b FROM t;", b"-- refused NotBuilt at 0\n"),
+        (
+            b"SELECT DISTINCT t.a FROM t;",
+            b"-- refused NotBuilt at 0\n",
+        ),
+        (
+            b"SELECT t.a FROM t WHERE t.a = 9223372036854775808;",
+            b"-- refused NumberRange at 30\n",
+        ),
+        (b"SELECT t.a, FROM t;", b"-- refused Syntax at 12\n"),
+        (
+            b"SELECT t.a FROM t WHERE (((((((((((((((((((((((((((((((((t.a = 1)))))))))))))))))))))))))))))))))",
+            b"-- refused TooDeep at 56\n",
+        ),
+        (
+            b"SELECT t.a FROM t WHERE ((((((((((((((((((((((((((((((((t.a = 1))))))))))))))))))))))))))))))))",
+            b"-- refused NotBuilt at 0\n",
+        ),
     ] {
         check(
             &rt,
             &Case {
                 queries,
-                status: 2,
-                written: b"fault Q NotBuilt\n",
+                status: 4,
+                written,
                 ..PLAIN
             },
         )?;
     }
-    for schema in [
-        b"CREATE TABLE t (a INTEGER, a INTEGER);".as_slice(),
-        b"CREATE TABLE t ();",
-        b"CREATE TABLE select (a INTEGER);",
-        b"",
+    Ok(())
+}
+
+#[test]
+fn refuses_files(rt: HostRuntime) -> Result<(), Fail> {
+    check(
+        &rt,
+        &Case {
+            queries: b"'",
+            status: 2,
+            written: b"fault Q offset 0 OpenQuote\n",
+            ..PLAIN
+        },
+    )?;
+    for (schema, written) in [
+        (
+            b"CREATE TABLE t (a INTEGER CHECK (a > 0));".as_slice(),
+            b"fault S offset 26 UnsupportedClause\n".as_slice(),
+        ),
+        (
+            b"CREATE INDEX i ON t (a);",
+            b"fault S offset 0 UnsupportedStatement\n",
+        ),
+        (
+            b"CREATE TABLE t (a INTEGER, a INTEGER);",
+            b"fault S offset 27 DuplicateColumn\n",
+        ),
+        (
+            b"CREATE TABLE a (x INTEGER REFERENCES b (y)); CREATE TABLE b (y INTEGER);",
+            b"fault S offset 37 ReferenceNotKey\n",
+        ),
     ] {
         check(
             &rt,
             &Case {
                 schema,
                 status: 2,
-                written: b"fault X NotBuilt\n",
+                written,
                 ..PLAIN
             },
         )?;
@@ -140,7 +226,7 @@ fn refuses_files(rt: HostRuntime) -> Result<(), Fail> {
     check(
         &rt,
         &Case {
-            words: "rewrite Q X Q",
+            words: "rewrite Q S Q",
             status: 2,
             written: b"fault Q NotBuilt\n",
             ..PLAIN
@@ -162,7 +248,7 @@ fn stops_at_faults(rt: HostRuntime) -> Result<(), Fail> {
     check(
         &rt,
         &Case {
-            words: "rewrite A X missing",
+            words: "rewrite A S missing",
             status: 3,
             written: b"",
             ..PLAIN
@@ -177,11 +263,11 @@ fn stops_at_faults(rt: HostRuntime) -> Result<(), Fail> {
             ..PLAIN
         },
     )?;
-    let twice = b"SELECT t.a, t.b FROM t;SELECT t.a, t.b FROM t;".as_slice();
+    let queries = b"SELECT t.a, t.b FROM t;SELECT t.a, t.b FROM t;".as_slice();
     check(
         &rt,
         &Case {
-            queries: twice,
+            queries,
             failing_write: 2,
             status: 5,
             written: LINE,
@@ -192,12 +278,7 @@ fn stops_at_faults(rt: HostRuntime) -> Result<(), Fail> {
 
 #[test]
 fn refuses_words(rt: HostRuntime) -> Result<(), Fail> {
-    for words in [
-        "",
-        "rewrite A X",
-        "rewrite A X Q more",
-        "discover src=2 dst=1 ops=D",
-    ] {
+    for words in ["", "rewrite A S", "rewrite A S Q more", "check A"] {
         check(
             &rt,
             &Case {
@@ -228,11 +309,10 @@ fn check_length<R: Threads + Wait + Sync + Abort + AllocGlobal>(
     written: &[u8],
 ) -> Result<(), Fail> {
     let alloc = rt.alloc();
-    let words = words(alloc, "rewrite A X Q")?;
     let queries = long_statement(alloc, length)?;
     let mut store = store(alloc, SCHEMA, &queries, 0)?;
     let mut sink = MemSink::new(alloc, 4096, CallList::new(alloc))?;
-    let found = wetune(rt, alloc, &words, &mut store, &mut sink, &NoGate);
+    let found = answers(rt, "rewrite A S Q", &mut store, &mut sink)?;
     assert_eq!(rt; found, status, "{length} bytes");
     assert_eq!(rt; sink.as_bytes(), written, "{length} bytes");
     Ok(())
@@ -241,6 +321,6 @@ fn check_length<R: Threads + Wait + Sync + Abort + AllocGlobal>(
 #[test]
 fn keeps_limits(rt: HostRuntime) -> Result<(), Fail> {
     check_length(&rt, 65_536, 0, LINE)?;
-    check_length(&rt, 65_537, 2, b"fault Q NotBuilt\n")?;
-    check_length(&rt, 16_777_217, 2, b"fault Q NotBuilt\n")
+    check_length(&rt, 65_537, 4, b"-- refused TooLong at 0\n")?;
+    check_length(&rt, 16_777_217, 2, b"fault Q offset 16777216 TooLong\n")
 }

@@ -11,6 +11,7 @@ invariant-tokens l = record {
   order : l.from ≤ l.i;
   within : l.i ≤ length l.tokens;
   cut : map (shown l.tokens) l.pieces.items ++ filter has_tokens (left l.size l.tokens l.from l.i) ≡ statements l.size l.tokens;
+  few : length l.pieces.items ≤ l.from;
   holds : All (Holds l.tokens) l.pieces.items;
 }
 

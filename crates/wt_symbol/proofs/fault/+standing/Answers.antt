@@ -1,4 +1,4 @@
-use Rattle.std.proofs.Common.{◌≡◌, true, slice_index, inl, inr, refl}
+use Rattle.std.proofs.Common.{inl, inr, refl}
 use Rattle.wt_symbol.specs.Sides.{tree_of}
 use Rattle.wt_symbol.proofs.MaskLemmas.{mask_one, proj_stands, join_stands}
 use Rattle.wt_symbol.proofs.fault.+standing.Goals as goal

@@ -1,7 +1,5 @@
-use Rattle.std.proofs.Common.{◌≡◌, ◌<◌, ◌≤◌, true, arith, rules}
-use Rattle.std.proofs.lemmas.Grind.{common_steps}
-use Rattle.wt_symbol.specs.Sides.{tree_of, size_of, weight_of}
-use Rattle.wt_symbol.specs.Lawful.{has_lawful_symbols, has_lawful_anchors}
+use Rattle.std.proofs.Common.{arith, rules}
+use Rattle.wt_symbol.specs.Sides.{tree_of}
 use Rattle.wt_symbol.proofs.SymbolLemmas.{source_small, source_anchored, dest_small, dest_anchored, weight-le, weight_fault}
 use Rattle.wt_symbol.proofs.fault.first_fault.Goals as goal
 

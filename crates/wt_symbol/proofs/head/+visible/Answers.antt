@@ -1,4 +1,4 @@
-use Rattle.std.proofs.Common.{◌≡◌, ◌<◌, true, slice_index, inl, inr, refl}
+use Rattle.std.proofs.Common.{◌<◌, slice_index, inl, inr}
 use Rattle.wt_symbol.proofs.MaskLemmas.{mask_one, mask_both}
 use Rattle.wt_symbol.proofs.head.+visible.Goals as goal
 

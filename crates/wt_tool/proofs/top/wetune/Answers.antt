@@ -1,5 +1,5 @@
 use Rattle.wt_tool.proofs.Statuses.{bytes_of, usage_only, usage_where, read_of, write_of, prefix_of, status_known}
-use Rattle.wt_tool.proofs.QueryLaws.{keeps_rows, keeps_names, reads_spelling, spelling_reads}
+use Rattle.wt_tool.proofs.QueryLaws.{keeps_rows, keeps_names}
 use Rattle.wt_tool.proofs.top.wetune.Goals as goal
 
 pub returns-clause-bytes : goal.returns-clause-bytes
@@ -28,9 +28,3 @@ returns-clause-rows g c = keeps_rows
 
 pub returns-clause-names : goal.returns-clause-names
 returns-clause-names g c = keeps_names
-
-pub returns-clause-read_as_spelled : goal.returns-clause-read_as_spelled
-returns-clause-read_as_spelled g c = reads_spelling
-
-pub returns-clause-spelled_is_read : goal.returns-clause-spelled_is_read
-returns-clause-spelled_is_read g c = spelling_reads

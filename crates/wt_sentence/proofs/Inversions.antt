@@ -1,9 +1,9 @@
 -- What a reading that succeeds was made of.
-use Rattle.std.proofs.Common.{◌≡◌, ℕ, ◌+◌, ◌⊎◌, inl, inr, Bool, true, false, List, [], ◌∷◌, drop, refl, ap, sym, ◌∙◌, Result, Ok, Err, zero, suc, arith}
+use Rattle.std.proofs.Common.{◌≡◌, ℕ, ◌+◌, ◌⊎◌, inl, inr, Bool, true, false, List, [], ◌∷◌, drop, refl, ap, sym, ◌∙◌, Ok, Err, zero, suc, arith}
 use Rattle.std.specs.Prelude.{if◌then◌else◌}
 use Rattle.wt_grammar.specs.declared.lexeme.Kind.{Kind}
 use Rattle.wt_grammar.specs.declared.lexeme.Lexeme.{Lexeme}
-use Rattle.wt_grammar.specs.Lexemes.{Tokens, kind, place}
+use Rattle.wt_grammar.specs.Lexemes.{Tokens}
 use Rattle.wt_grammar.specs.Reading.{Read, Refusal, plus, followed, joined_to, taken, more}
 
 pub chosen : {A : Type 0} (b : Bool) (x y z : A) → (if b then x else y) ≡ z → ((b ≡ true) × (x ≡ z)) ⊎ ((b ≡ false) × (y ≡ z))

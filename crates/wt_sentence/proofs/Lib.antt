@@ -3,3 +3,8 @@ pub mod Took
 pub mod SoundParts
 pub mod SoundQueries
 pub mod Sound
+pub mod Follows
+pub mod Tuples
+pub mod CompleteParts
+pub mod CompleteQueries
+pub mod Complete

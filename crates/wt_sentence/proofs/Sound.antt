@@ -1,22 +1,21 @@
 -- What is read is a sentence: all levels, and whole statements.
-use Rattle.std.proofs.Common.{◌≡◌, ℕ, suc, zero, ◌+◌, ◌⊎◌, inl, inr, Bool, true, false, List, [], ◌∷◌, ◌++◌, length, drop, refl, ap, sym, ◌∙◌, arith, Result, Ok, Err, Option, Some, None, subst, append-nil}
+use Rattle.std.proofs.Common.{◌≡◌, ℕ, suc, zero, ◌+◌, true, false, List, [], ◌∷◌, ◌++◌, drop, refl, ap, sym, ◌∙◌, Ok, Option, Some, None, subst, append-nil}
 use Rattle.std.specs.Prelude.{map}
 use Rattle.std.proofs.lemmas.List.{drop-drop}
 use Rattle.wt_lex.specs.declared.token.Token.{Token}
 use Rattle.wt_lex.specs.declared.token.TokenKind.{TokenKind}
 use Rattle.wt_lex.specs.declared.token.TokenKind.TheVariants as kinds
-use Rattle.wt_ast.specs.Tree.{QueryTree, FromTree, CondTree, negated}
+use Rattle.wt_ast.specs.Tree.{QueryTree, negated}
 use Rattle.wt_grammar.specs.declared.lexeme.Word.{Word}
-use Rattle.wt_grammar.specs.declared.lexeme.Lexeme.{Lexeme}
 use Rattle.wt_grammar.specs.Words.{lexeme, kind_by, keyword}
-use Rattle.wt_grammar.specs.Lexemes.{Tokens, kind, place, is_not, is_select, is_open, is_end}
+use Rattle.wt_grammar.specs.Lexemes.{Tokens, kind, place, is_not, is_select, is_end}
 use Rattle.wt_grammar.specs.Refusals.{syntax, no_join}
 use Rattle.wt_grammar.specs.Reading as read
 use Rattle.wt_grammar.specs.Reading.{Read, plus, no_query_end}
 use Rattle.wt_sentence.specs.Grammar.{Seq, Is, IsAt, Parens, deeper}
 use Rattle.wt_sentence.specs.Grammar as spec
-use Rattle.wt_sentence.proofs.Inversions.{chosen, held, ok_parts, plus_ok, followed_ok, last_ok}
-use Rattle.wt_sentence.proofs.Took.{Took, Sound, There, took_then, took_as, took_one, took_is, some_seq, some_one, within_at, behind_front}
+use Rattle.wt_sentence.proofs.Inversions.{held, ok_parts, plus_ok, followed_ok, last_ok}
+use Rattle.wt_sentence.proofs.Took.{Took, took_then, took_as, took_one, took_is, some_seq, some_one, within_at, behind_front}
 use Rattle.wt_sentence.proofs.SoundQueries.{SoundBelow, neg_sound, cond_sound, joined_sound, body_sound}
 
 module _ (end : ℕ) (bytes : List ℕ) where

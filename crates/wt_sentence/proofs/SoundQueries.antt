@@ -1,18 +1,15 @@
 -- What is read is a sentence: conditions, FROM and queries.
-use Rattle.std.proofs.Common.{◌≡◌, ℕ, suc, zero, ◌+◌, ◌-◌, ◌≤◌, length-drop, ◌⊎◌, inl, inr, Bool, true, false, List, [], ◌∷◌, ◌++◌, length, drop, refl, ap, sym, ◌∙◌, arith, Result, Ok, Err, Option, Some, None, subst}
-use Rattle.std.specs.Prelude.{◌&&◌, ◌||◌, if◌then◌else◌}
+use Rattle.std.proofs.Common.{◌≡◌, ℕ, suc, zero, ◌+◌, ◌-◌, ◌≤◌, length-drop, ◌⊎◌, inl, inr, Bool, true, false, List, [], ◌∷◌, length, drop, refl, ap, sym, ◌∙◌, arith, Ok, Err, Option, Some, None, subst}
+use Rattle.std.specs.Prelude.{◌||◌, if◌then◌else◌}
 use Rattle.wt_value.specs.declared.value.Value.{Value}
 use Rattle.wt_ast.specs.declared.tree.ColumnName.{ColumnName}
 use Rattle.wt_ast.specs.declared.tree.CmpWord.{CmpWord}
 use Rattle.wt_ast.specs.declared.tree.Scalar.{Scalar}
 use Rattle.wt_ast.specs.declared.tree.Scalar.TheVariants as scalar
-use Rattle.wt_ast.specs.Tree.{QueryTree, FilterTree, FromTree, CondTree, CondTrees, select, no_filter, filter_by, table, derived, compare, is_null, is_not_null, in_list, in_query, all_of, any_of, negated}
-use Rattle.wt_grammar.specs.declared.lexeme.Kind.{Kind}
-use Rattle.wt_grammar.specs.declared.lexeme.Lexeme.{Lexeme}
+use Rattle.wt_ast.specs.Tree.{QueryTree, FromTree, CondTree, select, no_filter, filter_by, table, derived, compare, is_null, is_not_null, in_list, in_query, all_of, any_of, negated}
 use Rattle.wt_grammar.specs.declared.lexeme.JoinKind.{JoinKind}
 use Rattle.wt_grammar.specs.declared.lexeme.JoinKind.TheVariants as joining
-use Rattle.wt_grammar.specs.declared.fault.QueryFault.{QueryFault}
-use Rattle.wt_grammar.specs.Lexemes.{Tokens, kind, place, is_and, is_or, is_not, is_select, is_distinct, is_all, is_from, is_where, is_between, is_is, is_null_word, is_in, is_as, is_inner, is_left, is_outer, is_join, is_on, is_open, is_close, is_comma, is_dot, is_star, is_name, is_end, begins_join}
+use Rattle.wt_grammar.specs.Lexemes.{Tokens, kind, place, is_and, is_or, is_not, is_select, is_distinct, is_all, is_from, is_where, is_between, is_is, is_null_word, is_in, is_as, is_inner, is_left, is_outer, is_join, is_on, is_open, is_name, begins_join}
 use Rattle.wt_grammar.specs.Refusals.{syntax, no_join}
 use Rattle.wt_grammar.specs.Reading as read
 use Rattle.wt_grammar.specs.Reading.{Read, Refusal, Nest, plus, followed, expect, cmp_of, between_of, join_of, name_only, place_or, opens_tuple, no_query_end}
@@ -32,7 +29,7 @@ pub record SoundBelow (end : ℕ) (bytes : List ℕ) (ns : Nest) (d : Deeper) : 
   pub there : (q : QueryTree) (a : Tokens) → d.queries q a → There a
 
 module _ (end : ℕ) (bytes : List ℕ) where
-  operand_there : (x : Scalar) (a : Tokens) → Operand end bytes x a → There a
+  pub operand_there : (x : Scalar) (a : Tokens) → Operand end bytes x a → There a
   operand_there x a (inl (c, inl (n, at, p, e), f)) = some_one _ a p
   operand_there x a (inl (c, inr (q, n, at, p, e), f)) = some_seq _ _ (λ b z. some_one _ b z) a p
   operand_there x a (inr (v, at, inl (n, p, b, e), f)) = some_one _ a p

@@ -1,15 +1,14 @@
 -- The first tokens are a sentence.
-use Rattle.std.proofs.Common.{◌≡◌, ℕ, suc, zero, ◌+◌, ◌⊎◌, inl, inr, Bool, true, false, List, [], ◌∷◌, ◌++◌, length, drop, refl, ap, sym, ◌∙◌, arith, append_assoc, Result, Ok, Err, length-append, subst}
+use Rattle.std.proofs.Common.{◌≡◌, ℕ, ◌+◌, Bool, true, false, List, [], ◌∷◌, ◌++◌, length, drop, refl, ap, sym, ◌∙◌, arith, append_assoc, Ok, length-append, subst}
 use Rattle.wt_grammar.specs.declared.lexeme.Kind.{Kind}
 use Rattle.wt_grammar.specs.declared.lexeme.Kind.TheVariants.{End}
 use Rattle.wt_grammar.specs.declared.lexeme.Lexeme.{Lexeme}
 use Rattle.wt_grammar.specs.Lexemes.{Tokens, kind, place, is_comma, is_open, is_close}
-use Rattle.wt_grammar.specs.Refusals.{syntax}
-use Rattle.wt_grammar.specs.Reading.{Read, Refusal, plus, followed, more, list, run, expect, within, one_or}
+use Rattle.wt_grammar.specs.Reading.{Read, more, list, run, expect, within, one_or}
 use Rattle.wt_ast.specs.Tree.{CondTree, CondTrees}
 use Rattle.wt_grammar.specs.declared.fault.QueryFault.{QueryFault}
 use Rattle.wt_sentence.specs.Grammar.{Seq, One, Is, IsAt, Behind, Listed, Parens, Run}
-use Rattle.wt_sentence.proofs.Inversions.{chosen, held, ok_parts, plus_ok, followed_ok, last_ok, more_cons, more_nil, nothing}
+use Rattle.wt_sentence.proofs.Inversions.{held, ok_parts, plus_ok, followed_ok, last_ok, more_cons, more_nil, nothing}
 
 -- the first n tokens are such
 abbrev pub Took : (Tokens → Type 0) → Tokens → ℕ → Type 0

@@ -1,6 +1,6 @@
 -- A statement read from left to right. A reading gives a value and how many tokens it took, or the first refusal and its
 -- place. Its only recursion is on the levels of nesting that are left.
-use Rattle.std.specs.Prelude.{ℕ, zero, suc, ◌+◌, ◌-◌, ◌^◌, Bool, true, false, not, ◌&&◌, ◌||◌, if◌then◌else◌, nat_lt, List, [], ◌∷◌, drop, Option, Some, None, Result, Ok, Err, pos, neg_ℤ}
+use Rattle.std.specs.Prelude.{ℕ, zero, suc, ◌+◌, ◌-◌, ◌^◌, Bool, true, false, ◌&&◌, ◌||◌, if◌then◌else◌, nat_lt, List, [], ◌∷◌, drop, Option, Some, None, Result, Ok, Err, pos, neg_ℤ}
 use Rattle.wt_value.specs.declared.value.Value.{Value}
 use Rattle.wt_value.specs.declared.value.Value.TheVariants as value
 use Rattle.wt_lex.specs.declared.token.LexFault.{LexFault}
@@ -363,10 +363,11 @@ module _ (end : ℕ) where
       -- behind a tuple, where IN or NOT IN stands
       unfoldable pub after_tuple : ℕ → List ColumnName → Tokens → Read CondTree
       after_tuple at cs ts =
-          if is_not (kind ts) then (if is_open (kind (drop 2 ts)) && is_select (kind (drop 3 ts)) then no fault.NotInSubquery ts else no fault.Syntax ts)
-          else (if not (is_open (kind (drop 1 ts))) then no fault.Syntax (drop 1 ts)
-          else (if not (is_select (kind (drop 2 ts))) then no fault.Syntax (drop 2 ts)
-          else plus 1 (subquery at cs (place end ts) (drop 1 ts))))
+          if is_in (kind ts)
+          then (if is_open (kind (drop 1 ts))
+          then (if is_select (kind (drop 2 ts)) then plus 1 (subquery at cs (place end ts) (drop 1 ts)) else no fault.Syntax (drop 2 ts))
+          else no fault.Syntax (drop 1 ts))
+          else (if is_open (kind (drop 2 ts)) && is_select (kind (drop 3 ts)) then no fault.NotInSubquery ts else no fault.Syntax ts)
 
       unfoldable pub tuple_in : Tokens → Read CondTree
       tuple_in ts = followed ts (listed column ts) (λ cs rest. after_tuple (place end ts) cs rest)

@@ -306,7 +306,7 @@ fn after_tuple(
     ensures exact { Gives condition_tree result (spec.after_tuple end bytes.now (spec.nest end bytes.now levels) at columns.items ts.now) }
     ensures within { IfOk result (λ x. x.1 ≤ length ts.now) }
 {
-    if at_not(ts) {
+    if !at_in(ts) {
         let is_query = at_open(after(ts, 2)) && at_select(after(ts, 3));
         let fault = if is_query {
             QueryFault::NotInSubquery

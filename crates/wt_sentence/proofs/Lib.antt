@@ -1,0 +1,10 @@
+pub mod Inversions
+pub mod Took
+pub mod SoundParts
+pub mod SoundQueries
+pub mod Sound
+pub mod Follows
+pub mod Tuples
+pub mod CompleteParts
+pub mod CompleteQueries
+pub mod Complete

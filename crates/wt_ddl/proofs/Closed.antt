@@ -1,8 +1,7 @@
 -- A table whose parenthesis is closed has columns, and keys and references over them.
-use Rattle.std.proofs.Common.{◌≡◌, ◌≢◌, ℕ, zero, suc, ◌+◌, ◌-◌, ◌<◌, ◌≤◌, Bool, true, false, List, [], ◌∷◌, ◌++◌, length, get_or, refl, ap, sym, ◌∙◌, subst, arith, length-append, Option, Some, None, Result, Ok, Err}
-use Rattle.std.specs.Prelude.{position, nat_lt, if◌then◌else◌}
+use Rattle.std.proofs.Common.{◌≡◌, ◌≢◌, ℕ, zero, suc, ◌+◌, ◌<◌, ◌≤◌, Bool, List, [], ◌∷◌, length, refl, ap, sym, ◌∙◌, subst, arith, length-append, Option, Some, None, Result, Ok, Err}
+use Rattle.std.specs.Prelude.{position, nat_lt}
 use Rattle.std.specs.List.{All, AllPairs, position_or_len}
-use Rattle.std.specs.Str.{bytes_eq}
 use Rattle.std.proofs.lemmas.Bool.{cond_both}
 use Rattle.std.proofs.lemmas.Bool.Decides.{nat_tests}
 use Rattle.std.proofs.lemmas.List.Elements.{All-push, All-nil, All-cons, All-head, All-tail}
@@ -16,11 +15,10 @@ use Rattle.wt_ddl.specs.declared.draft.ColumnList.TheVariants as lists
 use Rattle.wt_ddl.specs.declared.draft.OpenReference.{OpenReference}
 use Rattle.wt_ddl.specs.declared.draft.Rule.{Rule}
 use Rattle.wt_ddl.specs.declared.draft.Rule.TheVariants as rules
-use Rattle.wt_ddl.specs.declared.draft.Target.{Target}
 use Rattle.wt_ddl.specs.declared.draft.TableDraft.{TableDraft}
 use Rattle.wt_ddl.specs.declared.draft.TableRead.{TableRead}
 use Rattle.wt_ddl.specs.Settling.{chain, in_turn, column_number, is_among, new_number, list_one, numbers, with_key_by, with_reference_by, add_rule, settled}
-use Rattle.wt_ddl.proofs.Lawful.{IsListed, IsRule, IsDraft, Whole, IsBegun}
+use Rattle.wt_ddl.proofs.Lawful.{IsListed, IsRule, Whole, IsBegun}
 
 -- ---- what holds of a value, where there is one
 

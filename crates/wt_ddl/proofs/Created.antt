@@ -1,5 +1,5 @@
 -- The tables of a text: at most 256, with different names, each closed.
-use Rattle.std.proofs.Common.{◌≡◌, ◌≢◌, ℕ, zero, suc, ◌+◌, ◌-◌, ◌<◌, ◌≤◌, Bool, true, false, not, List, [], ◌∷◌, ◌++◌, length, drop, get_or, refl, ap, sym, ◌∙◌, subst, arith, length-append, Option, Some, None, Result, Ok, Err}
+use Rattle.std.proofs.Common.{◌≡◌, ◌≢◌, ℕ, zero, suc, ◌<◌, ◌≤◌, Bool, true, false, List, [], ◌∷◌, ◌++◌, length, drop, get_or, refl, sym, ◌∙◌, subst, arith, length-append, Result, Ok, Err}
 use Rattle.std.specs.Prelude.{nat_le, codes, ◌||◌, ◌&&◌}
 use Rattle.std.specs.List.{All, AllPairs}
 use Rattle.std.specs.Str.{bytes_eq}
@@ -15,7 +15,7 @@ use Rattle.wt_ddl.specs.Fronts.{Tokens, is_open, is_close, is_semi, at_kind, at_
 use Rattle.wt_ddl.specs.Reading as spec
 use Rattle.wt_ddl.specs.Reading.{Read}
 use Rattle.wt_ddl.specs.Settling.{settled}
-use Rattle.wt_ddl.proofs.Lawful.{IfRead, read_plus, read_followed, read_behind, read_repeat, read_is, Whole, IsBegun, empty_law, element_law, more_elements_law}
+use Rattle.wt_ddl.proofs.Lawful.{IfRead, read_plus, read_followed, read_behind, read_repeat, Whole, IsBegun, empty_law, element_law, more_elements_law}
 use Rattle.wt_ddl.proofs.Closed.{IfDone, IsClosed, settled_law}
 
 pub record AreTables (N : List ℕ → Type 0) (tables : List TableRead) : Type 0 where

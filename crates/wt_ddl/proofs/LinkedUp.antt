@@ -1,8 +1,7 @@
 -- Tables with their references are a schema.
-use Rattle.std.proofs.Common.{◌≡◌, ◌≢◌, ℕ, zero, suc, ◌+◌, ◌-◌, ◌<◌, ◌≤◌, Bool, true, false, List, [], ◌∷◌, ◌++◌, length, get_or, refl, ap, sym, ◌∙◌, subst, arith, length-append, append-nil, append_assoc, map, Option, Some, None, Result, Ok, Err}
-use Rattle.std.specs.Prelude.{position, slice_get, ◌==◌}
-use Rattle.std.specs.List.{All, AllPairs, list_any, zip}
-use Rattle.std.specs.Str.{bytes_eq}
+use Rattle.std.proofs.Common.{◌≡◌, ◌≢◌, ℕ, zero, suc, ◌+◌, ◌<◌, ◌≤◌, true, List, [], ◌∷◌, ◌++◌, length, refl, ap, sym, subst, arith, length-append, append-nil, append_assoc, Option, Some, None, Result, Ok, Err}
+use Rattle.std.specs.Prelude.{slice_get, ◌==◌}
+use Rattle.std.specs.List.{All, AllPairs, list_any}
 use Rattle.std.proofs.lemmas.Bool.{cond_both}
 use Rattle.std.proofs.lemmas.Bool.Decides.{nat_tests}
 use Rattle.std.proofs.lemmas.List.Elements.{All-push, All-nil, All-cons, All-head, All-tail}
@@ -11,13 +10,13 @@ use Rattle.wt_schema.specs.declared.schema.Column.{Column}
 use Rattle.wt_schema.specs.declared.schema.Key.{Key}
 use Rattle.wt_schema.specs.declared.schema.Reference.{Reference}
 use Rattle.wt_schema.specs.declared.schema.Table.{Table}
-use Rattle.wt_schema.specs.Lawful.{IsName, IsKey, HasColumns, IsReference, IsTable, IsSchema, width_of}
+use Rattle.wt_schema.specs.Lawful.{IsName, IsKey, IsReference, IsTable, IsSchema, width_of}
 use Rattle.wt_ddl.specs.declared.fault.DdlError.{DdlError}
 use Rattle.wt_ddl.specs.declared.draft.Named.{Named}
 use Rattle.wt_ddl.specs.declared.draft.OpenReference.{OpenReference}
 use Rattle.wt_ddl.specs.declared.draft.TableRead.{TableRead}
-use Rattle.wt_ddl.specs.Settling.{chain, in_turn, column_number}
-use Rattle.wt_ddl.specs.Linking.{table_number, found, find_one, has_exactly, primary_of, same_kinds, primary_target, named_target, target_columns, linked_to, linked_at, linked_by, linked, link_one, link_table, with_links, all_with_links, linked_tables}
+use Rattle.wt_ddl.specs.Settling.{in_turn, column_number}
+use Rattle.wt_ddl.specs.Linking.{table_number, found, find_one, has_exactly, primary_of, same_kinds, primary_target, named_target, target_columns, linked_at, linked_by, linked, link_one, link_table, with_links, all_with_links, linked_tables}
 use Rattle.wt_ddl.proofs.Closed.{IfDone, done_chain, IfFound, position_within, Within, IsOpen, IsClosed}
 use Rattle.wt_ddl.proofs.Created.{AreTables}
 

@@ -1,5 +1,5 @@
 -- What stands at a table's closing parenthesis: the names in its column lists become numbers, in text order.
-use Rattle.std.specs.Prelude.{◌≡◌, ℕ, position, true, Bool, if◌then◌else◌, ◌==◌, List, [], ◌∷◌, ◌++◌, Option, Some, None, Result, Ok, Err}
+use Rattle.std.specs.Prelude.{◌≡◌, ℕ, position, Bool, if◌then◌else◌, ◌==◌, List, [], ◌∷◌, ◌++◌, Option, Some, None, Result, Ok, Err}
 use Rattle.std.specs.List.{list_any}
 use Rattle.std.specs.Str.{bytes_eq}
 use Rattle.wt_schema.specs.declared.schema.Column.{Column}

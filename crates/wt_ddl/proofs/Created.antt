@@ -45,7 +45,7 @@ abbrev ClosedAs : List ℕ → (List ℕ → Type 0) → TableRead → Type 0
 ClosedAs name N t = IsClosed (λ other. other ≡ name) N t
 
 named_as : (N : List ℕ → Type 0) (name : List ℕ) (t : TableRead) → N name → ClosedAs name N t → IsClosed N N t
-named_as N name t is h = record { name = subst N (sym h.name) is; some = h.some; few = h.few; named = h.named; differ = h.differ; keys = h.keys; references = h.references }
+named_as N name t is h = record { name = subst N (sym h.name) is; some = h.some; few = h.few; named = h.named; differ = h.differ; keys = h.keys; primary = h.primary; references = h.references }
 
 one_more : (N : List ℕ → Type 0) (tables : List TableRead) (name : List ℕ) (t : TableRead) → AreTables N tables → length tables < 256 → spec.has_table tables name ≡ false → N name → ClosedAs name N t → AreTables N (tables ++ t ∷ [])
 one_more N tables name t h few new is closed = record {

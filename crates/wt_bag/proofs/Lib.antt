@@ -1,2 +1,11 @@
 pub mod TotalLaws
+pub mod EachLaws
+pub mod HasLaws
+pub mod ChoiceLaws
+pub mod BagLaws
 pub mod Counting
+pub mod PairingLaws
+pub mod PairsByLaws
+pub mod ApartLaws
+pub mod TaggedChoices
+pub mod UniqueLists

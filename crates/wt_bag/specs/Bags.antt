@@ -33,6 +33,10 @@ pub record DecidesEquality {X : Type 0} (same : X → X → Bool) : Type 0 where
   pub sound : (x y : X) → same x y ≡ true → x ≡ y
   pub reflexive : (x : X) → same x x ≡ true
 
+-- the test holds of equal elements alone, though not of each element and itself
+pub record PassesEqualOnly {X : Type 0} (matching : X → X → Bool) : Type 0 where
+  pub equal : (x y : X) → matching x y ≡ true → x ≡ y
+
 -- whether x is among the elements
 abbrev pub among : {X : Type 0} → (X → X → Bool) → List X → X → Bool
 among same xs x = list_any (λ y. same x y) xs

@@ -1,11 +1,18 @@
 -- Choices of one element from each of several lists, and pairings of two lists.
-use Rattle.std.specs.Prelude.{ℕ, zero, suc, ◌<◌, ◌≡◌, ◌≢◌, Bool, true, List, [], ◌∷◌, length, get_or, map, flat_map}
+use Rattle.std.specs.Prelude.{ℕ, zero, suc, ◌<◌, ◌≡◌, ◌≢◌, ◌⊎◌, Bool, true, List, [], ◌∷◌, length, get_or, map, flat_map}
 use Rattle.wt_bag.specs.Bags.{SameSums, Each}
 
 -- one element of each list, in every way; the first list's choice is the outermost
 abbrev pub choices : {X : Type 0} → List (List X) → List (List X)
 choices [] = [] ∷ []
 choices (r ∷ rs) = flat_map (λ c. map (λ e. c ∷ e) (choices rs)) r
+
+-- equally many places and elements, each element as its place asks
+abbrev pub Fitting : {X K : Type 0} → (K → X → Type 0) → List K → List X → Type 0
+Fitting P [] [] = Unit {0}
+Fitting P (k ∷ ks) (x ∷ xs) = P k x × Fitting P ks xs
+Fitting P [] (x ∷ xs) = ⊥
+Fitting P (k ∷ ks) [] = ⊥
 
 -- x put in at place k, or at the end of a shorter list
 abbrev pub put_at : {X : Type 0} → ℕ → X → List X → List X
@@ -47,3 +54,13 @@ arrange (k ∷ ks) (x ∷ e) = put_at k x (arrange ks e)
 abbrev pub Apart : {X : Type 0} → List X → Type 0
 Apart [] = Unit {0}
 Apart (x ∷ xs) = Each (λ y. x ≢ y) xs × Apart xs
+
+-- R holds of each element and each later one
+abbrev pub EachLater : {X : Type 0} → (X → X → Type 0) → List X → Type 0
+EachLater R [] = Unit {0}
+EachLater R (x ∷ xs) = Each (R x) xs × EachLater R xs
+
+-- x is one of the elements
+abbrev pub Has : {X : Type 0} → X → List X → Type 0
+Has x [] = ⊥
+Has x (y ∷ ys) = (x ≡ y) ⊎ Has x ys

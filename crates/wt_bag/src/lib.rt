@@ -4,10 +4,10 @@
 //! `specs/`, their laws in `proofs/`; there is no code to run.
 #![tactic(auto)]
 
-ghost use Rattle.std.specs.Prelude.{◌≡◌, ℕ, List, nat_eq};
+ghost use Rattle.std.specs.Prelude.{◌↔◌, ℕ, List, nat_eq};
 ghost use Rattle.wt_bag.specs.Bags.{OneBag, SameSums};
 
-/// A law: two lists of numbers are one bag where every sum over the two is equal.
-pub fn equal_sums_are_one_bag()
-    ensures { (xs ys : List ℕ) → SameSums xs ys → OneBag nat_eq xs ys }
+/// A law: two lists of numbers are one bag exactly where every sum over the two is equal.
+pub fn one_bag_is_equal_sums()
+    ensures { (xs ys : List ℕ) → (OneBag nat_eq xs ys ↔ SameSums xs ys) }
 {}

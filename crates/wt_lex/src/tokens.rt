@@ -98,6 +98,8 @@ fn shown(great: &[u64], stored: Stored) -> Token
 /// than 16,777,216 bytes, one that is not UTF-8, and one with an open quote or comment are refused, in this order.
 pub fn lex(alloc: Global, bytes: &[u8]) -> Result<Tokens, LexError>
     ensures exact { spec.Gives (λ tokens. tokens) result (spec.lexed bytes.now) }
+    // Each token has a byte.
+    ensures few { IfOk result (λ tokens. length tokens ≤ length bytes.now) }
 {
     if bytes.len() > MOST_BYTES {
         return Err(LexError::Fault(LexFault::TooLong, 16_777_216));
@@ -112,6 +114,7 @@ pub fn lex(alloc: Global, bytes: &[u8]) -> Result<Tokens, LexError>
 fn cut(alloc: Global, bytes: &[u8]) -> Result<Tokens, LexError>
     requires { length bytes.now ≤ 2 ^ 24 }
     ensures exact { spec.Gives (λ tokens. tokens) result (spec.open_quote (spec.tokens_from 0 0 bytes.now)) }
+    ensures few { IfOk result (λ tokens. length tokens ≤ length bytes.now) }
 {
     let mut stored = Vec::new(alloc);
     let mut great = Vec::new(alloc);
@@ -136,6 +139,7 @@ fn step(
         × (stores.shown_all great.new.items stored.new.items ≡ stores.shown_all great.old.items stored.old.items ++ spec.made at (front bytes.now))
         × stores.AllFit great.new.items stored.new.items
         × (1 ≤ n) × (n ≤ length bytes.now) × (length great.new.items ≤ at + n)) }
+    ensures few { IfOk result (λ n. length stored.new.items ≤ length stored.old.items + n) }
     ensures err { spec.FailsAt result (λ place. (spec.is_closed (front bytes.now) ≡ false) × (place ≡ at)) }
 {
     match at_front(bytes) {
@@ -176,6 +180,7 @@ fn add(stored: &mut Vec<Stored>, great: &mut Vec<u64>, token: Token) -> Result<(
         (stores.shown_all great.new.items stored.new.items ≡ stores.shown_all great.old.items stored.old.items ++ token ∷ [])
         × stores.AllFit great.new.items stored.new.items
         × (length great.new.items ≤ length great.old.items + 1)) }
+    ensures few { IfOk result (λ _. length stored.new.items ≤ length stored.old.items + 1) }
     ensures err { IfErr result (λ e. e ≡ LexError.Memory) }
 {
     let kind = store_kind(great, token.kind)?;

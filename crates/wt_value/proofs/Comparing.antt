@@ -5,7 +5,7 @@ use Rattle.std.specs.List.{AllByRecursion, Any}
 use Rattle.std.proofs.lemmas.Bool.{false≢true}
 use Rattle.std.proofs.lemmas.Bool.Decides.{Decides-int_eq}
 use Rattle.std.proofs.lemmas.Slice.Eq.{bytes_eq-Decides, slice_eq-Decides}
-use Rattle.wt_bag.specs.Bags.{DecidesEquality}
+use Rattle.wt_bag.specs.Bags.{DecidesEquality, PassesEqualOnly}
 use Rattle.wt_value.specs.declared.value.Value.{Value}
 use Rattle.wt_value.specs.declared.value.Value.TheVariants.{Null, Int, Text}
 use Rattle.wt_value.specs.Values.{Tuple, Matches, value_same, value_matches, row_same, row_matches}
@@ -78,3 +78,7 @@ equal_rows_match true a b says e = here (row_matches a b) refl
     here false q = refl
     here true q = absurd (let some = says.0 refl in some_null a some.0 some.1 ((row_matches-Decides a b).0 q).1 some.2 some.3 some.4)
 equal_rows_match false a b says e = sym ((row_matches-Decides a b).1 (e, no_null a (λ some. false≢true (says.1 some))))
+
+-- rows that match are equal
+pub row_matches_law : PassesEqualOnly row_matches
+row_matches_law = record { equal = λ a b h. ((row_matches-Decides a b).0 h).0 }

@@ -126,6 +126,15 @@ mod tests {
     }
 
     #[test]
+    fn lists_and_vectors_hold_the_same(rt: HostRuntime) -> Result<(), AllocError> {
+        let alloc = rt.alloc();
+        let all = rows(alloc, &[&[Some(1)], &[None]])?;
+        let copy = Rows::from_vec(all.clone()?.into_vec());
+        assert!(rt; copy == all && copy.len() == 2 && !copy.is_empty());
+        Ok(())
+    }
+
+    #[test]
     fn the_text_of_no_bytes_is_empty(rt: HostRuntime) -> Result<(), AllocError> {
         assert_eq!(rt; Text::from_bytes(rt.alloc(), b"")?.as_bytes().len(), 0);
         Ok(())

@@ -8,6 +8,7 @@ invariant-fronts l = record {
   exact : before (shown_all l.great.items l.stored.items) (tokens_from l.at 0 (drop l.at l.bytes)) ≡ tokens_from 0 0 l.bytes;
   fit : AllFit l.great.items l.stored.items;
   few : length l.great.items ≤ l.at;
+  each : length l.stored.items ≤ l.at;
   within : l.at ≤ length l.bytes;
 }
 

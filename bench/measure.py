@@ -1,0 +1,32 @@
+"""What the benches share: the built program, and a run of it with its time, peak memory and status."""
+import os
+import pathlib
+import subprocess
+import sys
+import time
+
+TOP = pathlib.Path(__file__).resolve().parent.parent
+MIB = 1 << 20
+
+
+def program(crate):
+    """The program of a crate that bin/wetune --build or rt run leaves, or the one that the command line names."""
+    path = pathlib.Path(sys.argv[1] if len(sys.argv) > 1 else TOP / f'crates/{crate}/out/{crate}')
+    if not path.exists():
+        sys.exit(f'{path} is not built')
+    return path.resolve()
+
+
+def measure(words, folder):
+    """The seconds, the peak memory in MB and the status of a run in this folder; its output goes to the file `out`."""
+    started = time.monotonic()
+    with open(folder / 'out', 'wb') as out:
+        child = subprocess.Popen(words, cwd=folder, stdout=out)
+        _, status, usage = os.wait4(child.pid, 0)
+    return time.monotonic() - started, usage.ru_maxrss / 1024, os.waitstatus_to_exitcode(status)
+
+
+def first_example(folder):
+    """Puts the rules and the schema of the first example into the folder."""
+    for file in ('rules.txt', 'schema.sql'):
+        (folder / file).write_bytes((TOP / 'examples/first' / file).read_bytes())

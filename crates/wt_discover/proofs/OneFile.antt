@@ -1,0 +1,24 @@
+-- Some pairs have one rule file.
+use Rattle.std.proofs.Common.{ℕ, ◌+◌, ◌-◌, ◌^◌, ◌≡◌, min, List, [], ◌∷◌, ◌++◌, length, sym, ap, ◌∙◌}
+use Rattle.std.specs.List.{flat_map}
+use Rattle.wt_symbol.specs.Sides.{PairTree}
+use Rattle.wt_form.proofs.OneList.{rules_are_one}
+use Rattle.wt_rule.specs.Texts.{head_line, end_line, line_of}
+use Rattle.wt_discover.specs.Files.{AreLines, AreAllLines, IsRuleFile}
+
+one_lines : (p : PairTree) (k d : ℕ) (t u : List ℕ) (n m : ℕ) → AreLines p k d t n → AreLines p k d u m → (t ≡ u) × (n ≡ m)
+one_lines p k d t u n m a b =
+    let sets : a.sets ≡ b.sets = rules_are_one p k d a.sets b.sets a.rules b.rules in
+    (a.lines ∙ ap (flat_map (line_of p)) sets ∙ sym b.lines, a.number ∙ ap length sets ∙ sym b.number)
+
+one_all : (k d : ℕ) (ps : List PairTree) (t u : List ℕ) (n m : ℕ) → AreAllLines k d ps t n → AreAllLines k d ps u m → (t ≡ u) × (n ≡ m)
+one_all k d [] t u n m a b = (a.0 ∙ sym b.0, a.1 ∙ sym b.1)
+one_all k d (p ∷ ps) t u n m a b =
+    let first = one_lines p k d a.0 b.0 a.1 b.1 a.4 b.4 in
+    let rest = one_all k d ps a.2 b.2 a.3 b.3 a.5 b.5 in
+    (a.6 ∙ ap (λ x. x ++ a.2) first.0 ∙ ap (λ x. b.0 ++ x) rest.0 ∙ sym b.6, a.7 ∙ ap (λ x. x + a.3) first.1 ∙ ap (λ x. b.1 + x) rest.1 ∙ sym b.7)
+
+pub one_file : (k d : ℕ) (ps : List PairTree) (t u : List ℕ) → IsRuleFile k d ps t → IsRuleFile k d ps u → t ≡ u
+one_file k d ps t u a b =
+    let all = one_all k d ps a.lines b.lines a.count b.count a.are b.are in
+    a.is ∙ ap (λ x. head_line k ++ (x ++ end_line (min a.count (2 ^ 64 - 1)))) all.0 ∙ ap (λ n. head_line k ++ (b.lines ++ end_line (min n (2 ^ 64 - 1)))) all.1 ∙ sym b.is

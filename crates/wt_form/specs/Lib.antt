@@ -1,0 +1,11 @@
+pub mod Trees
+pub mod Parts
+pub mod Known
+pub mod Congruent
+pub mod Facts
+pub mod Steps
+pub mod Provable
+pub mod FormOf
+pub mod Weights
+pub mod Under
+pub mod Relaxed

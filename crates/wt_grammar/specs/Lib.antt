@@ -1,0 +1,5 @@
+pub mod Words
+pub mod Lexemes
+pub mod Refusals
+pub mod Reading
+pub mod Statements

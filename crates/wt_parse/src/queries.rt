@@ -1,0 +1,577 @@
+//! Conditions, FROM and queries, by recursive descent. Each function reads what the definition of its name reads.
+ghost use Rattle.std.specs.Prelude.{◌≡◌, ◌<◌, ◌≤◌, ◌+◌, length, drop, map, IfOk, true};
+ghost use Rattle.wt_ast.specs.Tree.{condition_tree, filter_tree, from_tree, query_tree};
+ghost use Rattle.wt_grammar.specs.Lexemes as lexemes;
+ghost use Rattle.wt_grammar.specs.Lexemes.{is_and, is_or};
+ghost use Rattle.wt_grammar.specs.Reading as spec;
+ghost use Rattle.wt_parse.specs.Giving.{Gives, Adds, is_joint};
+
+use crate::comparisons::{
+    after_not, all_or_one, any_or_one, between, compared, is_part, negation, values,
+};
+use crate::error::QueryError;
+use crate::front::{
+    after, at_and, at_between, at_close, at_end, at_from, at_in, at_is, at_join_words, at_name,
+    at_not, at_on, at_open, at_or, at_select, at_where, expect, kind, no, no_end, no_join,
+    no_join_or_end, no_statement, place,
+};
+use crate::lists::{items, listed_columns};
+use crate::parts::operand;
+use crate::sources::{
+    derived_columns, derived_name, join_words, opens_tuple, quantifier, table_part,
+};
+use std::alloc::Global;
+use wt_ast::{ColumnName, ColumnNames, CondKind, Condition, FromPart, Items, Query, Scalar};
+use wt_grammar::{JoinKind, Kind, Lexeme, QueryFault, Word};
+
+// Whether the word between the parts of a run stands here.
+fn at_joint(word: Word, ts: &[Lexeme]) -> bool
+    ensures value { result ≡ is_joint word (lexemes.kind ts.now) }
+    ensures some { result ≡ true → 0 < length ts.now }
+{
+    match word {
+        Word::And => at_and(ts),
+        Word::Or => at_or(ts),
+        _ => false,
+    }
+}
+
+#[cycle(read)]
+#[tactic(auto, unfolding(wt_grammar::specs::Reading::cond, wt_grammar::specs::Reading::run))]
+fn cond(
+    alloc: Global,
+    bytes: &[u8],
+    ts: &[Lexeme],
+    end: u32,
+    levels: u32,
+) -> Result<(Condition, usize), QueryError>
+    ensures exact { Gives condition_tree result (spec.cond end bytes.now (spec.nest end bytes.now levels) ts.now) }
+    ensures within { IfOk result (λ x. x.1 ≤ length ts.now) }
+{
+    let (first, n) = conj(alloc, bytes, ts, end, levels)?;
+    let mut parts = Vec::new(alloc);
+    let m = more_conj(alloc, bytes, &mut parts, after(ts, n), end, levels)?;
+    Ok((any_or_one(alloc, first, parts)?, n + m))
+}
+
+#[cycle(read)]
+fn more_conj(
+    alloc: Global,
+    bytes: &[u8],
+    parts: &mut Vec<Condition>,
+    ts: &[Lexeme],
+    end: u32,
+    levels: u32,
+) -> Result<usize, QueryError>
+    ensures exact { Adds result (map condition_tree parts.old.items) (map condition_tree parts.new.items) (spec.more is_or (spec.conj end bytes.now (spec.nest end bytes.now levels)) 0 ts.now) }
+    ensures within { IfOk result (λ n. n ≤ length ts.now) }
+{
+    let mut at = 0;
+    'parts: while at_joint(Word::Or, after(ts, at)) {
+        let (part, m) = conj(alloc, bytes, after(ts, at + 1), end, levels)?;
+        parts.push(part)?;
+        at += m + 1;
+    }
+    Ok(at)
+}
+
+#[cycle(read)]
+#[tactic(auto, unfolding(wt_grammar::specs::Reading::conj, wt_grammar::specs::Reading::run))]
+fn conj(
+    alloc: Global,
+    bytes: &[u8],
+    ts: &[Lexeme],
+    end: u32,
+    levels: u32,
+) -> Result<(Condition, usize), QueryError>
+    ensures exact { Gives condition_tree result (spec.conj end bytes.now (spec.nest end bytes.now levels) ts.now) }
+    ensures within { IfOk result (λ x. x.1 ≤ length ts.now) }
+{
+    let (first, n) = neg(alloc, bytes, ts, end, levels)?;
+    let mut parts = Vec::new(alloc);
+    let m = more_neg(alloc, bytes, &mut parts, after(ts, n), end, levels)?;
+    Ok((all_or_one(alloc, first, parts)?, n + m))
+}
+
+#[cycle(read)]
+fn more_neg(
+    alloc: Global,
+    bytes: &[u8],
+    parts: &mut Vec<Condition>,
+    ts: &[Lexeme],
+    end: u32,
+    levels: u32,
+) -> Result<usize, QueryError>
+    ensures exact { Adds result (map condition_tree parts.old.items) (map condition_tree parts.new.items) (spec.more is_and (spec.neg end bytes.now (spec.nest end bytes.now levels)) 0 ts.now) }
+    ensures within { IfOk result (λ n. n ≤ length ts.now) }
+{
+    let mut at = 0;
+    'parts: while at_joint(Word::And, after(ts, at)) {
+        let (part, m) = neg(alloc, bytes, after(ts, at + 1), end, levels)?;
+        parts.push(part)?;
+        at += m + 1;
+    }
+    Ok(at)
+}
+
+#[cycle(read)]
+#[tactic(auto, using(crate::proofs::Nesting::openings), unfolding(wt_grammar::specs::Reading::neg))]
+fn neg(
+    alloc: Global,
+    bytes: &[u8],
+    ts: &[Lexeme],
+    end: u32,
+    levels: u32,
+) -> Result<(Condition, usize), QueryError>
+    ensures exact { Gives condition_tree result (spec.neg end bytes.now (spec.nest end bytes.now levels) ts.now) }
+    ensures within { IfOk result (λ x. x.1 ≤ length ts.now) }
+{
+    if !at_not(ts) {
+        return basic(alloc, bytes, ts, end, levels);
+    }
+    if levels == 0 {
+        return Err(no(QueryFault::TooDeep, ts, end));
+    }
+    let (inner, n) = neg(alloc, bytes, after(ts, 1), end, levels - 1)?;
+    Ok((negation(alloc, place(ts, end), inner)?, n + 1))
+}
+
+#[cycle(read)]
+#[tactic(auto, using(crate::proofs::Nesting::openings), unfolding(wt_grammar::specs::Reading::basic, wt_grammar::specs::Reading::expect))]
+fn basic(
+    alloc: Global,
+    bytes: &[u8],
+    ts: &[Lexeme],
+    end: u32,
+    levels: u32,
+) -> Result<(Condition, usize), QueryError>
+    ensures exact { Gives condition_tree result (spec.basic end bytes.now (spec.nest end bytes.now levels) ts.now) }
+    ensures within { IfOk result (λ x. x.1 ≤ length ts.now) }
+{
+    if !at_open(ts) {
+        let (a, n) = operand(alloc, bytes, ts, end)?;
+        let (c, m) = after_operand(alloc, bytes, place(ts, end), a, after(ts, n), end, levels)?;
+        return Ok((c, n + m));
+    }
+    let inside = after(ts, 1);
+    if at_select(inside) {
+        return Err(no(QueryFault::Subquery, ts, end));
+    }
+    if opens_tuple(ts) {
+        return tuple_in(alloc, bytes, ts, end, levels);
+    }
+    if levels == 0 {
+        return Err(no(QueryFault::TooDeep, ts, end));
+    }
+    let (c, n) = cond(alloc, bytes, inside, end, levels - 1)?;
+    let rest = after(inside, n);
+    let (_, m) = expect(at_close(rest), QueryFault::Syntax, rest, end)?;
+    Ok((c, n + m + 1))
+}
+
+#[cycle(read)]
+#[tactic(auto, unfolding(wt_grammar::specs::Reading::after_operand))]
+fn after_operand(
+    alloc: Global,
+    bytes: &[u8],
+    at: u32,
+    a: Scalar,
+    ts: &[Lexeme],
+    end: u32,
+    levels: u32,
+) -> Result<(Condition, usize), QueryError>
+    ensures exact { Gives condition_tree result (spec.after_operand end bytes.now (spec.nest end bytes.now levels) at a ts.now) }
+    ensures within { IfOk result (λ x. x.1 ≤ length ts.now) }
+{
+    let word = place(ts, end);
+    if at_between(ts) {
+        let (c, n) = between(alloc, bytes, at, a, word, after(ts, 1), end)?;
+        return Ok((c, n + 1));
+    }
+    if at_not(ts) {
+        let (c, n) = after_not(alloc, bytes, at, a, word, after(ts, 1), end, levels)?;
+        return Ok((c, n + 1));
+    }
+    if at_is(ts) {
+        return match a {
+            Scalar::Literal(_, _) => Err(no(QueryFault::Syntax, ts, end)),
+            Scalar::Column(column) => {
+                let (c, n) = is_part(at, column, after(ts, 1), end)?;
+                Ok((c, n + 1))
+            }
+        };
+    }
+    if at_in(ts) {
+        return match a {
+            Scalar::Literal(_, _) => Err(no(QueryFault::Syntax, ts, end)),
+            Scalar::Column(column) => {
+                let (c, n) = in_part(alloc, bytes, at, column, word, after(ts, 1), end, levels)?;
+                Ok((c, n + 1))
+            }
+        };
+    }
+    compared(alloc, bytes, at, a, ts, end)
+}
+
+// Behind a column and IN, which stands at `word`.
+#[cycle(read)]
+#[tactic(auto, unfolding(wt_grammar::specs::Reading::in_part))]
+fn in_part(
+    alloc: Global,
+    bytes: &[u8],
+    at: u32,
+    column: ColumnName,
+    word: u32,
+    ts: &[Lexeme],
+    end: u32,
+    levels: u32,
+) -> Result<(Condition, usize), QueryError>
+    ensures exact { Gives condition_tree result (spec.in_part end bytes.now (spec.nest end bytes.now levels) at column word ts.now) }
+    ensures within { IfOk result (λ x. x.1 ≤ length ts.now) }
+{
+    if !at_open(ts) {
+        return Err(no(QueryFault::Syntax, ts, end));
+    }
+    if !at_select(after(ts, 1)) {
+        return values(alloc, bytes, at, column, word, ts, end, levels);
+    }
+    let mut columns = Vec::new(alloc);
+    columns.push(column)?;
+    subquery(alloc, bytes, at, columns, word, ts, end, levels)
+}
+
+#[cycle(read)]
+#[tactic(auto, unfolding(wt_grammar::specs::Reading::subquery))]
+fn subquery(
+    alloc: Global,
+    bytes: &[u8],
+    at: u32,
+    columns: Vec<ColumnName>,
+    word: u32,
+    ts: &[Lexeme],
+    end: u32,
+    levels: u32,
+) -> Result<(Condition, usize), QueryError>
+    requires { 0 < length ts.now }
+    ensures exact { Gives condition_tree result (spec.subquery end bytes.now (spec.nest end bytes.now levels) at columns.items word ts.now) }
+    ensures within { IfOk result (λ x. x.1 ≤ length ts.now) }
+{
+    let (query, n) = query(alloc, bytes, ts, end, levels)?;
+    let kind = CondKind::InQuery(
+        ColumnNames::from_vec(columns),
+        Box::new(alloc, query)?,
+        word,
+    );
+    Ok((Condition { at, kind }, n))
+}
+
+#[cycle(read)]
+#[tactic(auto, unfolding(wt_grammar::specs::Reading::tuple_in))]
+fn tuple_in(
+    alloc: Global,
+    bytes: &[u8],
+    ts: &[Lexeme],
+    end: u32,
+    levels: u32,
+) -> Result<(Condition, usize), QueryError>
+    requires { 0 < length ts.now }
+    ensures exact { Gives condition_tree result (spec.tuple_in end bytes.now (spec.nest end bytes.now levels) ts.now) }
+    ensures within { IfOk result (λ x. x.1 ≤ length ts.now) }
+{
+    let (columns, n) = listed_columns(alloc, bytes, ts, end, levels)?;
+    let (c, m) = after_tuple(
+        alloc,
+        bytes,
+        place(ts, end),
+        columns,
+        after(ts, n),
+        end,
+        levels,
+    )?;
+    Ok((c, n + m))
+}
+
+// Behind a tuple, where IN or NOT IN stands.
+#[cycle(read)]
+#[tactic(auto, unfolding(wt_grammar::specs::Reading::after_tuple))]
+fn after_tuple(
+    alloc: Global,
+    bytes: &[u8],
+    at: u32,
+    columns: Vec<ColumnName>,
+    ts: &[Lexeme],
+    end: u32,
+    levels: u32,
+) -> Result<(Condition, usize), QueryError>
+    ensures exact { Gives condition_tree result (spec.after_tuple end bytes.now (spec.nest end bytes.now levels) at columns.items ts.now) }
+    ensures within { IfOk result (λ x. x.1 ≤ length ts.now) }
+{
+    if at_not(ts) {
+        let is_query = at_open(after(ts, 2)) && at_select(after(ts, 3));
+        let fault = if is_query {
+            QueryFault::NotInSubquery
+        } else {
+            QueryFault::Syntax
+        };
+        return Err(no(fault, ts, end));
+    }
+    let rest = after(ts, 1);
+    if !at_open(rest) {
+        return Err(no(QueryFault::Syntax, rest, end));
+    }
+    let select = after(ts, 2);
+    if !at_select(select) {
+        return Err(no(QueryFault::Syntax, select, end));
+    }
+    let (c, n) = subquery(alloc, bytes, at, columns, place(ts, end), rest, end, levels)?;
+    Ok((c, n + 1))
+}
+
+// What may stand behind a query.
+fn no_query_end(query: &Query, kind: Kind) -> QueryFault
+    ensures { result ≡ spec.no_query_end (query_tree query.now) kind }
+{
+    match &query.filter {
+        None => no_join_or_end(kind),
+        Some(_) => no_end(kind),
+    }
+}
+
+// A query in parentheses.
+#[cycle(read)]
+#[tactic(auto, using(crate::proofs::Nesting::openings), unfolding(wt_grammar::specs::Reading::expect))]
+fn query(
+    alloc: Global,
+    bytes: &[u8],
+    ts: &[Lexeme],
+    end: u32,
+    levels: u32,
+) -> Result<(Query, usize), QueryError>
+    requires { 0 < length ts.now }
+    ensures exact { Gives query_tree result ((spec.nest end bytes.now levels).queries ts.now) }
+    ensures within { IfOk result (λ x. x.1 ≤ length ts.now) }
+{
+    if levels == 0 {
+        return Err(no(QueryFault::TooDeep, ts, end));
+    }
+    let inside = after(ts, 1);
+    let (query, n) = body(alloc, bytes, after(inside, 1), end, levels - 1)?;
+    let rest = after(inside, 1 + n);
+    let (_, m) = expect(at_close(rest), no_query_end(&query, kind(rest)), rest, end)?;
+    Ok((query, n + m + 2))
+}
+
+// A query behind SELECT.
+#[cycle(read)]
+#[tactic(auto, unfolding(wt_grammar::specs::Reading::body, wt_grammar::specs::Reading::expect))]
+fn body(
+    alloc: Global,
+    bytes: &[u8],
+    ts: &[Lexeme],
+    end: u32,
+    levels: u32,
+) -> Result<(Query, usize), QueryError>
+    ensures exact { Gives query_tree result (spec.body end bytes.now (spec.nest end bytes.now levels) ts.now) }
+    ensures within { IfOk result (λ x. x.1 ≤ length ts.now) }
+{
+    let (distinct, d) = quantifier(ts);
+    let rest = after(ts, d);
+    let (items, n) = items(alloc, bytes, rest, end)?;
+    let rest = after(rest, n);
+    let (_, f) = expect(at_from(rest), QueryFault::Syntax, rest, end)?;
+    let rest = after(rest, f);
+    let (from, m) = joined(alloc, bytes, rest, end, levels)?;
+    let (filter, k) = filter(alloc, bytes, after(rest, m), end, levels)?;
+    let items = Items::from_vec(items);
+    Ok((
+        Query {
+            distinct,
+            items,
+            from,
+            filter,
+        },
+        d + n + f + m + k,
+    ))
+}
+
+#[cycle(read)]
+#[tactic(auto, unfolding(wt_grammar::specs::Reading::filter))]
+fn filter(
+    alloc: Global,
+    bytes: &[u8],
+    ts: &[Lexeme],
+    end: u32,
+    levels: u32,
+) -> Result<(Option<Condition>, usize), QueryError>
+    ensures exact { Gives filter_tree result (spec.filter end bytes.now (spec.nest end bytes.now levels) ts.now) }
+    ensures within { IfOk result (λ x. x.1 ≤ length ts.now) }
+{
+    if !at_where(ts) {
+        return Ok((None, 0));
+    }
+    let (c, n) = cond(alloc, bytes, after(ts, 1), end, levels)?;
+    Ok((Some(c), n + 1))
+}
+
+#[cycle(read)]
+#[tactic(auto, using(crate::proofs::Nesting::openings), unfolding(wt_grammar::specs::Reading::primary, wt_grammar::specs::Reading::expect))]
+fn primary(
+    alloc: Global,
+    bytes: &[u8],
+    ts: &[Lexeme],
+    end: u32,
+    levels: u32,
+) -> Result<(FromPart, usize), QueryError>
+    ensures exact { Gives from_tree result (spec.primary end bytes.now (spec.nest end bytes.now levels) ts.now) }
+    ensures within { IfOk result (λ x. x.1 ≤ length ts.now) }
+{
+    if at_name(ts) {
+        return table_part(alloc, bytes, ts, end);
+    }
+    if !at_open(ts) {
+        return Err(no(QueryFault::Syntax, ts, end));
+    }
+    let inside = after(ts, 1);
+    if at_select(inside) {
+        return derived_part(alloc, bytes, ts, end, levels);
+    }
+    if levels == 0 {
+        return Err(no(QueryFault::TooDeep, ts, end));
+    }
+    let (part, n) = joined(alloc, bytes, inside, end, levels - 1)?;
+    let rest = after(inside, n);
+    let (_, m) = expect(at_close(rest), no_join(kind(rest)), rest, end)?;
+    Ok((part, n + m + 1))
+}
+
+// A query in parentheses with its alias, and with names of its columns where they are written.
+#[cycle(read)]
+#[tactic(auto, unfolding(wt_grammar::specs::Reading::derived_part))]
+fn derived_part(
+    alloc: Global,
+    bytes: &[u8],
+    ts: &[Lexeme],
+    end: u32,
+    levels: u32,
+) -> Result<(FromPart, usize), QueryError>
+    requires { 0 < length ts.now }
+    ensures exact { Gives from_tree result (spec.derived_part end bytes.now (spec.nest end bytes.now levels) ts.now) }
+    ensures within { IfOk result (λ x. x.1 ≤ length ts.now) }
+{
+    let at = place(ts, end);
+    let (query, n) = query(alloc, bytes, ts, end, levels)?;
+    let rest = after(ts, n);
+    let ((alias, alias_at), m) = derived_name(alloc, bytes, rest, end)?;
+    let (columns, k) = derived_columns(alloc, bytes, after(rest, m), end, levels)?;
+    let query = Box::new(alloc, query)?;
+    Ok((
+        FromPart::Derived {
+            query,
+            alias,
+            columns,
+            at,
+            alias_at,
+        },
+        n + m + k,
+    ))
+}
+
+#[cycle(read)]
+#[tactic(auto, unfolding(wt_grammar::specs::Reading::joined))]
+fn joined(
+    alloc: Global,
+    bytes: &[u8],
+    ts: &[Lexeme],
+    end: u32,
+    levels: u32,
+) -> Result<(FromPart, usize), QueryError>
+    ensures exact { Gives from_tree result (spec.joined end bytes.now (spec.nest end bytes.now levels) ts.now) }
+    ensures within { IfOk result (λ x. x.1 ≤ length ts.now) }
+{
+    let (first, n) = primary(alloc, bytes, ts, end, levels)?;
+    let (part, m) = joins(alloc, bytes, first, after(ts, n), end, levels)?;
+    Ok((part, n + m))
+}
+
+#[cycle(read)]
+fn joins(
+    alloc: Global,
+    bytes: &[u8],
+    first: FromPart,
+    ts: &[Lexeme],
+    end: u32,
+    levels: u32,
+) -> Result<(FromPart, usize), QueryError>
+    ensures exact { Gives from_tree result (spec.joins end bytes.now (spec.nest end bytes.now levels) (from_tree first) 0 ts.now) }
+    ensures within { IfOk result (λ x. x.1 ≤ length ts.now) }
+{
+    let mut left = first;
+    let mut at = 0;
+    'parts: while at_join_words(after(ts, at)) {
+        let (wider, m) = join(alloc, bytes, left, after(ts, at), end, levels)?;
+        left = wider;
+        at += m;
+    }
+    Ok((left, at))
+}
+
+#[cycle(read)]
+#[tactic(auto, unfolding(wt_grammar::specs::Reading::join, wt_grammar::specs::Reading::expect))]
+fn join(
+    alloc: Global,
+    bytes: &[u8],
+    left: FromPart,
+    ts: &[Lexeme],
+    end: u32,
+    levels: u32,
+) -> Result<(FromPart, usize), QueryError>
+    requires { 0 < length ts.now }
+    ensures exact { Gives from_tree result (spec.join end bytes.now (spec.nest end bytes.now levels) (from_tree left) ts.now) }
+    ensures within { IfOk result (λ x. (1 ≤ x.1) × (x.1 ≤ length ts.now)) }
+{
+    let (kind, n) = join_words(ts, end)?;
+    let rest = after(ts, n);
+    let (right, m) = primary(alloc, bytes, rest, end, levels)?;
+    let rest = after(rest, m);
+    let on_at = place(rest, end);
+    let (_, f) = expect(at_on(rest), no_join(crate::front::kind(rest)), rest, end)?;
+    let (on, k) = cond(alloc, bytes, after(rest, f), end, levels)?;
+    let (left, right) = (Box::new(alloc, left)?, Box::new(alloc, right)?);
+    let part = match kind {
+        JoinKind::Inner => FromPart::Inner {
+            left,
+            right,
+            on,
+            on_at,
+        },
+        JoinKind::Left => FromPart::Left {
+            left,
+            right,
+            on,
+            on_at,
+        },
+    };
+    Ok((part, n + m + f + k))
+}
+
+/// The query that the tokens of a statement are.
+#[tactic(auto, unfolding(wt_grammar::specs::Reading::statement))]
+pub(crate) fn statement(
+    alloc: Global,
+    bytes: &[u8],
+    ts: &[Lexeme],
+    end: u32,
+) -> Result<(Query, usize), QueryError>
+    ensures exact { Gives query_tree result (spec.statement end bytes.now ts.now) }
+{
+    if !at_select(ts) {
+        return Err(no(no_statement(kind(ts)), ts, end));
+    }
+    let inside = after(ts, 1);
+    let (query, n) = body(alloc, bytes, inside, end, 32)?;
+    let rest = after(inside, n);
+    if !at_end(rest) {
+        return Err(no(no_query_end(&query, kind(rest)), rest, end));
+    }
+    Ok((query, n + 1))
+}

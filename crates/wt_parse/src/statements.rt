@@ -1,0 +1,211 @@
+//! The statements of a file.
+ghost use Rattle.std.specs.Prelude.{◌≡◌, ◌<◌, ◌≤◌, ◌-◌, ◌+◌, ◌++◌, ◌∷◌, [], ◌^◌, min, map, filter, take, drop, length, slice_get, Some, IfOk, true, false};
+ghost use Rattle.std.specs.List.{All};
+ghost use Rattle.wt_grammar.specs.Statements as spec;
+ghost use Rattle.wt_ast.specs.Tree.{query_tree};
+ghost use Rattle.wt_ast.specs.Places.{first, misplaced};
+ghost use Rattle.wt_parse.specs.Held.{kept, shown, Holds, NoOdd, Reads, Answers};
+
+use crate::error::QueryError;
+use crate::lexemes::lexemes;
+use crate::queries::statement;
+use std::alloc::Global;
+use std::marker::Model;
+use wt_ast::{Counted, Query};
+use wt_grammar::{Lexeme, QueryFault};
+use wt_lex::{LexError, Sym, Token, TokenKind, Tokens, lex};
+use wt_value::{Bytes, WantOfMemory};
+
+/// The greatest length of a statement, in bytes.
+const MOST_BYTES: u32 = 65_536;
+
+// The tokens of a statement, from a place to before another, and where the statement ends.
+#[derive(Clone, Copy, Debug)]
+struct Piece {
+    from: usize,
+    to: usize,
+    end: u32,
+}
+
+/// The statements of a file, with its bytes. Contracts see it as these bytes and statements.
+#[derive(Debug, Drop)]
+pub struct Queries {
+    bytes: Bytes,
+    tokens: Tokens,
+    pieces: Vec<Piece>,
+}
+
+impl Model for Queries {
+    ghost use Rattle.std.specs.Prelude.{map};
+    ghost use Rattle.std.specs.List.{All};
+    ghost use Rattle.wt_grammar.specs.Statements.{File};
+    ghost use Rattle.wt_parse.specs.Held.{shown, Holds};
+
+    ghost Value = { File };
+
+    ghost view = { λ q. record { bytes = q.bytes; statements = map (shown q.tokens) q.pieces.items } };
+
+    ghost invariant = { λ q. All (Holds q.tokens) q.pieces.items };
+}
+
+fn is_semicolon(kind: TokenKind) -> bool
+    ensures { result ≡ spec.is_semicolon kind }
+{
+    matches!(kind, TokenKind::Symbol(Sym::Semi))
+}
+
+// Adds a piece, if it has tokens.
+fn add(pieces: &mut Vec<Piece>, from: usize, to: usize, end: u32) -> Result<(), WantOfMemory>
+    ensures adds { IfOk result (λ _. pieces.new.items ≡ pieces.old.items ++ kept from to end) }
+    ensures few { from ≤ to → IfOk result (λ _. length pieces.new.items + from ≤ length pieces.old.items + to) }
+{
+    if from < to {
+        pieces.push(Piece { from, to, end })?;
+    }
+    Ok(())
+}
+
+// Takes the token at a place: a semicolon ends a piece, and the next one begins behind it.
+fn step(pieces: &mut Vec<Piece>, token: Token, from: usize, i: usize) -> Result<usize, WantOfMemory>
+    requires { i < 2 ^ 64 - 1 }
+    ensures mark { spec.is_semicolon token.kind ≡ true → IfOk result (λ next. (next ≡ i + 1) × (pieces.new.items ≡ pieces.old.items ++ kept from i token.start)) }
+    ensures other { spec.is_semicolon token.kind ≡ false → IfOk result (λ next. (next ≡ from) × (pieces.new.items ≡ pieces.old.items)) }
+    ensures few { from ≤ i → IfOk result (λ next. length pieces.new.items + from ≤ length pieces.old.items + next) }
+{
+    if !is_semicolon(token.kind) {
+        return Ok(from);
+    }
+    add(pieces, from, i, token.start)?;
+    Ok(i + 1)
+}
+
+// The tokens of a file of so many bytes, cut at each semicolon.
+fn cut(alloc: Global, tokens: &Tokens, size: u32) -> Result<Vec<Piece>, WantOfMemory>
+    ensures shown { IfOk result (λ v. map (shown tokens.now) v.items ≡ spec.statements size tokens.now) }
+    ensures holds { IfOk result (λ v. All (Holds tokens.now) v.items) }
+    ensures few { IfOk result (λ v. length v.items ≤ length tokens.now) }
+{
+    let mut pieces = Vec::new(alloc);
+    let mut from = 0;
+    let mut i = 0;
+    'tokens: while i < tokens.len() {
+        from = step(&mut pieces, tokens.get(i), from, i)?;
+        i += 1;
+    }
+    add(&mut pieces, from, i, size)?;
+    Ok(pieces)
+}
+
+/// The statements of a file: its tokens, cut at each semicolon; empty statements are skipped. A file that does not fall into
+/// tokens is refused.
+pub fn read_queries(alloc: Global, bytes: &[u8]) -> Result<Queries, LexError>
+    ensures exact { Reads (λ q. q) result (spec.file_of bytes.now) }
+    // Each statement has a byte, so their number fits in 32 bits.
+    ensures few { IfOk result (λ q. length q.statements ≤ 16777216) }
+{
+    let tokens = lex(alloc, bytes)?;
+    let pieces = cut(alloc, &tokens, bytes.len() as u32)?;
+    let bytes = Bytes::from_vec(Vec::from_slice(alloc, bytes)?);
+    Ok(Queries {
+        bytes,
+        tokens,
+        pieces,
+    })
+}
+
+impl Queries {
+    /// The number of statements. It stands at the greatest `u32` where it would pass it.
+    pub fn count(&self) -> u32
+        ensures { result ≡ min (2 ^ 32 - 1) (length self.now.statements) }
+    {
+        u32::try_from(self.pieces.len()).unwrap_or(u32::MAX)
+    }
+
+    /// The offset of the first byte of the n-th statement, from 0.
+    pub fn begin(&self, n: u32) -> u32
+        requires { n < length self.now.statements }
+        ensures exact { (s : spec.Statement) → slice_get self.now.statements n ≡ Some s → result ≡ spec.begin s s.tokens }
+    {
+        begin_of(&self.tokens, self.pieces[n as usize])
+    }
+
+    /// The query that the n-th statement is, from 0, or its first refusal.
+    pub fn get(&self, alloc: Global, n: u32) -> Result<Query, QueryError>
+        requires { n < length self.now.statements }
+        ensures exact { (s : spec.Statement) → slice_get self.now.statements n ≡ Some s → Answers result (spec.answer self.now.bytes s) }
+    {
+        let piece = self.pieces[n as usize];
+        answer(alloc, self.bytes.as_slice(), &self.tokens, piece)
+    }
+}
+
+// The first token that is refused wherever it stands.
+fn no_odd(ts: &[Lexeme]) -> Result<(), QueryError>
+    ensures { NoOdd result (map (λ t. t.token) ts.now) }
+{
+    for t in ts {
+        if let TokenKind::Odd(fault) = t.token.kind {
+            return Err(QueryError::Lex(fault, t.token.start));
+        }
+    }
+    Ok(())
+}
+
+fn earlier(one: Option<u32>, other: Option<u32>) -> Option<u32>
+    ensures { result ≡ spec.earlier one other }
+{
+    match (one, other) {
+        (Some(a), Some(b)) => Some(a.min(b)),
+        (Some(a), None) => Some(a),
+        (None, b) => b,
+    }
+}
+
+// Where the query has too many parts.
+fn crowded(alloc: Global, query: &Query) -> Result<Option<u32>, WantOfMemory>
+    ensures { IfOk result (λ at. at ≡ spec.crowded (query_tree query.now)) }
+{
+    let items = query.places(alloc, Counted::FromItems)?;
+    let conjuncts = query.places(alloc, Counted::Conjuncts)?;
+    Ok(earlier(
+        items.as_slice().get(256).copied(),
+        conjuncts.as_slice().get(256).copied(),
+    ))
+}
+
+// A query that was read, unless a query in it stands below Or or Not, or it has too many parts.
+fn limited(alloc: Global, query: Query) -> Result<Query, QueryError>
+    ensures { Answers result (spec.placed (first (misplaced (query_tree query))) (query_tree query)) }
+{
+    if let Some(at) = query.misplaced() {
+        return Err(QueryError::Refused(QueryFault::InUnderOr, at));
+    }
+    match crowded(alloc, &query)? {
+        Some(at) => Err(QueryError::Refused(QueryFault::TooMany, at)),
+        None => Ok(query),
+    }
+}
+
+// The offset of the first byte of a piece of the tokens.
+fn begin_of(tokens: &Tokens, piece: Piece) -> u32
+    requires { Holds tokens.now piece }
+    ensures { result ≡ spec.begin (shown tokens.now piece) (shown tokens.now piece).tokens }
+{
+    tokens.get(piece.from).start
+}
+
+// The query that a piece of the tokens is, or its first refusal.
+#[tactic(auto, unfolding(wt_grammar::specs::Statements::answer))]
+fn answer(alloc: Global, bytes: &[u8], tokens: &Tokens, piece: Piece) -> Result<Query, QueryError>
+    requires { Holds tokens.now piece }
+    ensures { Answers result (spec.answer bytes.now (shown tokens.now piece)) }
+{
+    let begin = tokens.get(piece.from).start;
+    if piece.end.saturating_sub(begin) > MOST_BYTES {
+        return Err(QueryError::Refused(QueryFault::TooLong, begin));
+    }
+    let ts = lexemes(alloc, bytes, tokens, piece.from, piece.to)?;
+    no_odd(&ts)?;
+    let (query, _) = statement(alloc, bytes, &ts, piece.end)?;
+    limited(alloc, query)
+}

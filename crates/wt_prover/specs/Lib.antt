@@ -1,0 +1,4 @@
+pub mod Sames
+pub mod Towers
+pub mod TowerSteps
+pub mod SideTowers

@@ -1,0 +1,433 @@
+//! Rules, books of rules and the lines of a rule file.
+#![tactic(auto)]
+
+ghost use Rattle.std.specs.Prelude.{◌≡◌, ◌++◌, ◌<◌, ◌≤◌, [], ◌∷◌, length, All, IfOk, OnOk, if◌then◌else◌};
+ghost use Rattle.std.specs.Fmt.{decimal};
+ghost use Rattle.std.specs.List.{flat_map};
+ghost use Rattle.std.specs.Prelude.{codes};
+ghost use Rattle.wt_symbol.specs.Sides.{tree_of, pair_of};
+ghost use Rattle.wt_symbol.specs.Lawful.{IsLawful};
+ghost use Rattle.wt_symbol.specs.Heads.{anchor};
+ghost use Rattle.wt_rule.specs.Texts.{HasListAnchors, leaf_text, list_text, pred_text, anchored_text, marked_text, side_text, atom_text, chosen, atoms_text, rule_line, head_line, end_line};
+
+pub use std::alloc::AllocError as WantOfMemory;
+use std::alloc::Global;
+use wt_constraint::{Atom, AtomSet, Atoms, atoms_of, has};
+use wt_symbol::{Pair, Side};
+use wt_value::{Bytes, Seq};
+
+/// A pair with a set of its atoms under which its sides give one bag.
+#[derive(Debug, Drop)]
+pub struct Rule {
+    pub pair: Pair,
+    pub set: AtomSet,
+}
+
+/// A list of rules.
+pub type Rules = Seq<Rule>;
+
+/// The rules of a file, with the bound on steps that they are proved within.
+#[derive(Debug, Drop)]
+pub struct RuleBook {
+    pub steps: u32,
+    pub rules: Rules,
+}
+
+fn may_be_shared<T: Send + Sync>() {}
+
+/// A statement to the compiler: threads may share these types, and hand them over.
+pub fn threads_share_rules() {
+    may_be_shared::<Rule>();
+    may_be_shared::<RuleBook>();
+}
+
+fn push_text(out: &mut Vec<u8>, text: &str) -> Result<(), WantOfMemory>
+    ensures { OnOk result (out.new.items ≡ out.old.items ++ text.now) }
+{
+    out.extend_from_slice(text.as_bytes())
+}
+
+fn push_number(alloc: Global, out: &mut Vec<u8>, n: u8) -> Result<(), WantOfMemory>
+    ensures { OnOk result (out.new.items ≡ out.old.items ++ decimal n) }
+{
+    let digits = format!(in alloc; "{n}")?;
+    push_text(out, &digits)
+}
+
+fn push_leaf(alloc: Global, out: &mut Vec<u8>, r: u8) -> Result<(), WantOfMemory>
+    ensures { OnOk result (out.new.items ≡ out.old.items ++ leaf_text r) }
+{
+    push_text(out, "r")?;
+    push_number(alloc, out, r)
+}
+
+fn push_list(alloc: Global, out: &mut Vec<u8>, a: u8) -> Result<(), WantOfMemory>
+    ensures { OnOk result (out.new.items ≡ out.old.items ++ list_text a) }
+{
+    push_text(out, "a")?;
+    push_number(alloc, out, a)
+}
+
+fn push_pred(alloc: Global, out: &mut Vec<u8>, p: u8) -> Result<(), WantOfMemory>
+    ensures { OnOk result (out.new.items ≡ out.old.items ++ pred_text p) }
+{
+    push_text(out, "p")?;
+    push_number(alloc, out, p)
+}
+
+/// Adds a list symbol, with its anchor if the marks have one.
+fn push_marked(alloc: Global, out: &mut Vec<u8>, marks: &[u8], a: u8) -> Result<(), WantOfMemory>
+    ensures { OnOk result (out.new.items ≡ out.old.items ++ marked_text marks.now a) }
+{
+    push_list(alloc, out, a)?;
+    if usize::from(a) < marks.len() {
+        push_text(out, "@")?;
+        push_leaf(alloc, out, marks[usize::from(a)])?;
+    }
+    Ok(())
+}
+
+/// Adds the lists of a join with a comma between them.
+fn push_lists(
+    alloc: Global,
+    out: &mut Vec<u8>,
+    marks: &[u8],
+    a: u8,
+    b: u8,
+) -> Result<(), WantOfMemory>
+    ensures { OnOk result (out.new.items ≡ out.old.items ++ (marked_text marks.now a ++ (codes "," ++ marked_text marks.now b))) }
+{
+    push_marked(alloc, out, marks, a)?;
+    push_text(out, ",")?;
+    push_marked(alloc, out, marks, b)
+}
+
+/// Adds an operand behind an opening text.
+#[cycle(side)]
+fn push_opened(
+    alloc: Global,
+    out: &mut Vec<u8>,
+    before: &str,
+    marks: &[u8],
+    s: &Side,
+) -> Result<(), WantOfMemory>
+    ensures { OnOk result (out.new.items ≡ out.old.items ++ (before.now ++ side_text (marked_text marks.now) (tree_of s.now))) }
+{
+    push_text(out, before)?;
+    push_side(alloc, out, marks, s)
+}
+
+/// Adds a side's text, each list with its anchor if the marks have one.
+#[cycle(side)]
+fn push_side(
+    alloc: Global,
+    out: &mut Vec<u8>,
+    marks: &[u8],
+    side: &Side,
+) -> Result<(), WantOfMemory>
+    ensures { OnOk result (out.new.items ≡ out.old.items ++ side_text (marked_text marks.now) (tree_of side.now)) }
+{
+    match side {
+        Side::Input(r) => push_leaf(alloc, out, *r),
+        Side::Proj(a, s) => {
+            push_text(out, "Proj<")?;
+            push_marked(alloc, out, marks, *a)?;
+            push_opened(alloc, out, ">(", marks, s)?;
+            push_text(out, ")")
+        }
+        Side::Filter(p, a, s) => {
+            push_text(out, "Filter<")?;
+            push_pred(alloc, out, *p)?;
+            push_text(out, ",")?;
+            push_marked(alloc, out, marks, *a)?;
+            push_opened(alloc, out, ">(", marks, s)?;
+            push_text(out, ")")
+        }
+        Side::InnerJoin(a, b, s, t) => {
+            push_text(out, "InnerJoin<")?;
+            push_lists(alloc, out, marks, *a, *b)?;
+            push_opened(alloc, out, ">(", marks, s)?;
+            push_opened(alloc, out, ",", marks, t)?;
+            push_text(out, ")")
+        }
+        Side::LeftJoin(a, b, s, t) => {
+            push_text(out, "LeftJoin<")?;
+            push_lists(alloc, out, marks, *a, *b)?;
+            push_opened(alloc, out, ">(", marks, s)?;
+            push_opened(alloc, out, ",", marks, t)?;
+            push_text(out, ")")
+        }
+        Side::InSub(a, s, t) => {
+            push_text(out, "InSub<")?;
+            push_marked(alloc, out, marks, *a)?;
+            push_opened(alloc, out, ">(", marks, s)?;
+            push_opened(alloc, out, ",", marks, t)?;
+            push_text(out, ")")
+        }
+        Side::Dedup(s) => {
+            push_opened(alloc, out, "Dedup(", marks, s)?;
+            push_text(out, ")")
+        }
+    }
+}
+
+/// Adds the anchor of a list and the list, as atoms have them.
+fn push_anchored(
+    alloc: Global,
+    out: &mut Vec<u8>,
+    anchors: &[u8],
+    a: u8,
+) -> Result<(), WantOfMemory>
+    requires { a < length anchors.now }
+    ensures { OnOk result (out.new.items ≡ out.old.items ++ (leaf_text (anchor anchors.now a) ++ (codes "," ++ list_text a))) }
+{
+    push_leaf(alloc, out, anchors[usize::from(a)])?;
+    push_text(out, ",")?;
+    push_list(alloc, out, a)
+}
+
+/// Adds an atom's text.
+fn push_atom(
+    alloc: Global,
+    out: &mut Vec<u8>,
+    anchors: &[u8],
+    atom: Atom,
+) -> Result<(), WantOfMemory>
+    requires { HasListAnchors anchors.now atom }
+    ensures { OnOk result (out.new.items ≡ out.old.items ++ atom_text anchors.now atom) }
+{
+    match atom {
+        Atom::RelEq(x, y) => {
+            push_text(out, "RelEq(")?;
+            push_leaf(alloc, out, x)?;
+            push_text(out, ",")?;
+            push_leaf(alloc, out, y)?;
+        }
+        Atom::AttrsEq(x, y) => {
+            push_text(out, "AttrsEq(")?;
+            push_list(alloc, out, x)?;
+            push_text(out, ",")?;
+            push_list(alloc, out, y)?;
+        }
+        Atom::PredEq(x, y) => {
+            push_text(out, "PredEq(")?;
+            push_pred(alloc, out, x)?;
+            push_text(out, ",")?;
+            push_pred(alloc, out, y)?;
+        }
+        Atom::Unique(a) => {
+            push_text(out, "Unique(")?;
+            push_anchored(alloc, out, anchors, a)?;
+        }
+        Atom::NotNull(a) => {
+            push_text(out, "NotNull(")?;
+            push_anchored(alloc, out, anchors, a)?;
+        }
+        Atom::RefAttrs(a, b) => {
+            push_text(out, "RefAttrs(")?;
+            push_anchored(alloc, out, anchors, a)?;
+            push_text(out, ",")?;
+            push_anchored(alloc, out, anchors, b)?;
+        }
+    }
+    push_text(out, ")")
+}
+
+/// Adds an atom if it is chosen.
+fn push_if(kept: &mut Atoms, is_chosen: bool, atom: Atom) -> Result<(), WantOfMemory>
+    ensures { OnOk result (kept.new ≡ (if is_chosen then kept.old ++ atom ∷ [] else kept.old)) }
+{
+    if is_chosen {
+        kept.push(atom)?;
+    }
+    Ok(())
+}
+
+/// The atoms of a set in their order.
+fn chosen_atoms(alloc: Global, atoms: &Atoms, set: AtomSet) -> Result<Atoms, WantOfMemory>
+    requires { length atoms.now ≤ 64 }
+    ensures { IfOk result (λ kept. kept ≡ chosen set 0 atoms.now) }
+{
+    let mut kept = Atoms::new(alloc);
+    for (k, atom) in atoms.as_slice().iter().enumerate() {
+        push_if(&mut kept, has(set, k as u32), *atom)?;
+    }
+    Ok(kept)
+}
+
+/// Adds more atoms, each behind a space.
+fn push_more(
+    alloc: Global,
+    out: &mut Vec<u8>,
+    anchors: &[u8],
+    atoms: &[Atom],
+) -> Result<(), WantOfMemory>
+    requires { All (HasListAnchors anchors.now) atoms.now }
+    ensures { OnOk result (out.new.items ≡ out.old.items ++ flat_map (λ next. codes " " ++ atom_text anchors.now next) atoms.now) }
+{
+    for next in atoms {
+        push_text(out, " ")?;
+        push_atom(alloc, out, anchors, *next)?;
+    }
+    Ok(())
+}
+
+/// Adds atoms with a space between each two, or a dash for none.
+fn push_atoms(
+    alloc: Global,
+    out: &mut Vec<u8>,
+    anchors: &[u8],
+    atoms: &[Atom],
+) -> Result<(), WantOfMemory>
+    requires { All (HasListAnchors anchors.now) atoms.now }
+    ensures { OnOk result (out.new.items ≡ out.old.items ++ atoms_text anchors.now atoms.now) }
+{
+    if atoms.is_empty() {
+        return push_text(out, "-");
+    }
+    push_atom(alloc, out, anchors, atoms[0])?;
+    push_more(alloc, out, anchors, &atoms[1..])
+}
+
+/// The line of a rule in a rule file, with LF.
+pub fn write_rule(alloc: Global, rule: &Rule) -> Result<Bytes, WantOfMemory>
+    requires { IsLawful (pair_of rule.now.pair) }
+    ensures { IfOk result (λ line. line ≡ rule_line rule.now) }
+{
+    let anchors = rule.pair.anchors.as_slice();
+    let all = atoms_of(alloc, &rule.pair)?;
+    let atoms = chosen_atoms(alloc, &all, rule.set)?;
+    let mut out = Vec::new(alloc);
+    push_side(alloc, &mut out, anchors, &rule.pair.source)?;
+    push_text(&mut out, " => ")?;
+    push_side(alloc, &mut out, &[], &rule.pair.dest)?;
+    push_text(&mut out, " | ")?;
+    push_atoms(alloc, &mut out, anchors, atoms.as_slice())?;
+    push_text(&mut out, "\n")?;
+    Ok(Bytes::from_vec(out))
+}
+
+/// A line of a text and a number.
+fn numbered_line(alloc: Global, text: &str, n: u64) -> Result<Bytes, WantOfMemory>
+    ensures { IfOk result (λ line. line ≡ text.now ++ (decimal n ++ (10 ∷ []))) }
+{
+    let mut out = Vec::new(alloc);
+    push_text(&mut out, text)?;
+    let digits = format!(in alloc; "{n}")?;
+    push_text(&mut out, &digits)?;
+    push_text(&mut out, "\n")?;
+    Ok(Bytes::from_vec(out))
+}
+
+/// The first line of a rule file whose rules are proved within so many steps, with LF.
+pub fn write_head(alloc: Global, steps: u32) -> Result<Bytes, WantOfMemory>
+    ensures { IfOk result (λ line. line ≡ head_line steps) }
+{
+    numbered_line(alloc, "wetune-rules 1 steps=", u64::from(steps))
+}
+
+/// The last line of a rule file of so many rules, with LF.
+pub fn write_end(alloc: Global, count: u64) -> Result<Bytes, WantOfMemory>
+    ensures { IfOk result (λ line. line ≡ end_line count) }
+{
+    numbered_line(alloc, "end ", count)
+}
+
+#[cfg(test)]
+mod tests {
+    use super::*;
+    use std::test::Fail;
+    use wt_symbol::{Anchors, pair_fault};
+
+    /// The line of a rule, if its pair is lawful.
+    fn line(
+        alloc: Global,
+        source: Side,
+        dest: Side,
+        anchors: &[u8],
+        set: u64,
+    ) -> Result<Option<Bytes>, WantOfMemory> {
+        let anchors = Anchors::from_vec(Vec::from_slice(alloc, anchors)?);
+        let rule = Rule {
+            pair: Pair {
+                source,
+                dest,
+                anchors,
+            },
+            set: AtomSet(set),
+        };
+        if pair_fault(alloc, &rule.pair)?.is_some() {
+            return Ok(None);
+        }
+        Ok(Some(write_rule(alloc, &rule)?))
+    }
+
+    fn input(alloc: Global, r: u8) -> Result<Box<Side>, WantOfMemory> {
+        Ok(Box::new(alloc, Side::Input(r))?)
+    }
+
+    fn proj(alloc: Global, a: u8, r: u8) -> Result<Box<Side>, WantOfMemory> {
+        Ok(Box::new(alloc, Side::Proj(a, input(alloc, r)?))?)
+    }
+
+    fn filter(alloc: Global, p: u8, a: u8) -> Result<Side, WantOfMemory> {
+        Ok(Side::Filter(p, a, input(alloc, 0)?))
+    }
+
+    fn dedup(alloc: Global) -> Result<Side, WantOfMemory> {
+        Ok(Side::Dedup(input(alloc, 0)?))
+    }
+
+    #[test]
+    fn rules_have_lines(rt: HostRuntime) -> Result<(), Fail> {
+        let alloc = rt.alloc();
+        let twice = Side::Dedup(Box::new(alloc, dedup(alloc)?)?);
+        let filters = Side::Filter(0, 0, Box::new(alloc, filter(alloc, 1, 1)?)?);
+        let left_join = Side::LeftJoin(0, 1, input(alloc, 0)?, input(alloc, 1)?);
+        let inner_join = Side::InnerJoin(0, 1, input(alloc, 0)?, input(alloc, 1)?);
+        let joined = Side::InnerJoin(1, 2, input(alloc, 0)?, input(alloc, 1)?);
+        let semi = Side::InSub(1, input(alloc, 0)?, proj(alloc, 2, 1)?);
+        let within = Side::InSub(0, input(alloc, 0)?, proj(alloc, 1, 1)?);
+        let table = [
+            (
+                line(alloc, twice, dedup(alloc)?, &[], 0)?,
+                "Dedup(Dedup(r0)) => Dedup(r0) | -\n",
+            ),
+            (
+                line(alloc, filters, filter(alloc, 0, 0)?, &[0, 0], 3)?,
+                "Filter<p0,a0@r0>(Filter<p1,a1@r0>(r0)) => Filter<p0,a0>(r0) | AttrsEq(a0,a1) PredEq(p0,p1)\n",
+            ),
+            (
+                line(alloc, left_join, inner_join, &[0, 1], 0b101_0001)?,
+                "LeftJoin<a0@r0,a1@r1>(r0,r1) => InnerJoin<a0,a1>(r0,r1) | RelEq(r0,r1) NotNull(r0,a0) RefAttrs(r0,a0,r1,a1)\n",
+            ),
+            (
+                line(
+                    alloc,
+                    Side::Proj(0, Box::new(alloc, joined)?),
+                    Side::Proj(0, Box::new(alloc, semi)?),
+                    &[0, 0, 1],
+                    64,
+                )?,
+                "Proj<a0@r0>(InnerJoin<a1@r0,a2@r1>(r0,r1)) => Proj<a0>(InSub<a1>(r0,Proj<a2>(r1))) | Unique(r1,a2)\n",
+            ),
+            (
+                line(alloc, within, Side::Input(0), &[0, 1], 0b101_0000)?,
+                "InSub<a0@r0>(r0,Proj<a1@r1>(r1)) => r0 | NotNull(r0,a0) RefAttrs(r0,a0,r1,a1)\n",
+            ),
+        ];
+        for (found, expected) in table {
+            let found = found.ok_or("a pair that is not lawful")?;
+            assert!(rt; found.as_slice() == expected.as_bytes());
+        }
+        Ok(())
+    }
+
+    #[test]
+    fn files_have_a_first_and_a_last_line(rt: HostRuntime) -> Result<(), Fail> {
+        let alloc = rt.alloc();
+        assert!(rt; write_head(alloc, 8)?.as_slice() == "wetune-rules 1 steps=8\n".as_bytes());
+        assert!(rt; write_end(alloc, 5)?.as_slice() == "end 5\n".as_bytes());
+        Ok(())
+    }
+}

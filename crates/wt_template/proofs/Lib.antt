@@ -1,0 +1,4 @@
+pub mod PlaceLemmas
+pub mod OrderLemmas
+pub mod RootLemmas
+pub mod TemplateLemmas

@@ -1,0 +1,7 @@
+pub mod ItemLaws
+pub mod Putting
+pub mod Files
+pub mod LinesOf
+pub mod StatementLines
+pub mod Statuses
+pub mod QueryLaws

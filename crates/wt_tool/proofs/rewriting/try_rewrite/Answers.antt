@@ -1,0 +1,10 @@
+use Rattle.std.proofs.lemmas.Result.{err_from_is_err_and}
+use Rattle.wt_tool.proofs.Files.{any_inputs, stops_reading}
+use Rattle.wt_tool.specs.Words.{names_of}
+use Rattle.wt_tool.proofs.rewriting.try_rewrite.Goals as goal
+
+pub returns-in_err-files : goal.returns-in_err-files
+returns-in_err-files g c =
+    let p = err_from_is_err_and c.from_residual.result c.from_residual.ensures.1 in
+    let some = any_inputs (g.S.Store.told c.args.store.now) (names_of c.args.names.now) in
+    rw (p.1, p.2) (some.0, some.1, some.2, some.3, stops_reading _ _ _ _ _ c.in_err-files.ensures.err)

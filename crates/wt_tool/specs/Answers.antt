@@ -1,0 +1,41 @@
+-- What the top call answers.
+use Rattle.std.specs.Prelude.{ℕ, List, [], ◌∷◌, ◌++◌, codes, MatchResult}
+use Rattle.std.specs.declared.option.Option.{Option}
+use Rattle.wt_tool.specs.declared.input.Input.{Input}
+use Rattle.wt_tool.specs.declared.words.UsageFault.{UsageFault}
+use Rattle.wt_tool.specs.declared.words.UsageFault.TheVariants.{NotBuilt}
+use Rattle.wt_tool.specs.Inputs.{IsInput}
+use Rattle.wt_tool.specs.Outcomes.{Outcome, Ends}
+use Rattle.wt_tool.specs.Rewriting.{rewriting}
+use Rattle.wt_tool.specs.Words.{Names, Command, Rewrite, command_of}
+
+-- what the three files of `rewrite` may have given
+pub record AreInputs (told : List ℕ → Option (List ℕ)) (names : Names) (rules schema queries : Input) : Type 0 where
+  pub rules_is : IsInput (told names.rules) rules
+  pub schema_is : IsInput (told names.schema) schema
+  pub queries_is : IsInput (told names.queries) queries
+
+-- some inputs that the files may have given, of which P holds
+abbrev pub WithInputs : (List ℕ → Option (List ℕ)) → Names → (Input → Input → Input → Type 0) → Type 0
+WithInputs told names P = (rules schema queries : Input) × AreInputs told names rules schema queries × P rules schema queries
+
+-- the word of a usage fault
+abbrev pub usage_word : UsageFault → List ℕ
+usage_word NotBuilt = codes "NotBuilt"
+
+-- words that are no command: `usage KIND`
+abbrev pub usage : UsageFault → Outcome
+usage fault = record { status = 1; text = codes "usage " ++ (usage_word fault ++ 10 ∷ []) }
+
+-- the outcome of a command, for some inputs that its files may have given; one line a command
+abbrev pub CommandOutcome : (List ℕ → Option (List ℕ)) → (Outcome → Type 0) → Command → Type 0
+CommandOutcome told P (Rewrite names) = WithInputs told names (λ rules schema queries. P (rewriting names rules schema queries))
+
+-- the outcome of a run: that of the words where they are refused, else that of their command
+abbrev pub RunOutcome : (List ℕ → Option (List ℕ)) → List (List ℕ) → (Outcome → Type 0) → Type 0
+RunOutcome told words P = MatchResult (command_of words) (CommandOutcome told P) (λ fault. P (usage fault))
+
+-- What a run owes. The words and what the store tells of each name give its outcome; it ends as `Ends` says, by the two counts of
+-- faults and what the sink tells before and after.
+pub record Answers (told : List ℕ → Option (List ℕ)) (words : List (List ℕ)) (read_rose write_rose : Type 0) (old new : Option (List ℕ)) (status : ℕ) : Type 0 where
+  pub outcome : RunOutcome told words (λ o. Ends read_rose write_rose old new o status)

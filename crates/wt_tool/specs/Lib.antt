@@ -1,0 +1,12 @@
+pub mod Causes
+pub mod Inputs
+pub mod Outcomes
+pub mod Words
+pub mod Names
+pub mod FaultNames
+pub mod Queries
+pub mod Printing
+pub mod LineItems
+pub mod Rewriting
+pub mod Laws
+pub mod Answers

@@ -1,8 +1,7 @@
 -- A table whose parenthesis is closed has columns, and keys and references over them.
-use Rattle.std.proofs.Common.{◌≡◌, ◌≢◌, ℕ, zero, suc, ◌+◌, ◌-◌, ◌<◌, ◌≤◌, Bool, true, false, List, [], ◌∷◌, ◌++◌, length, get_or, refl, ap, sym, ◌∙◌, subst, arith, length-append, Option, Some, None, Result, Ok, Err}
-use Rattle.std.specs.Prelude.{position, nat_lt, if◌then◌else◌}
+use Rattle.std.proofs.Common.{◌≡◌, ◌≢◌, ℕ, zero, suc, ◌+◌, ◌<◌, ◌≤◌, Bool, List, [], ◌∷◌, length, refl, ap, sym, ◌∙◌, subst, arith, length-append, Option, Some, None, Result, Ok, Err}
+use Rattle.std.specs.Prelude.{position, nat_lt}
 use Rattle.std.specs.List.{All, AllPairs, position_or_len}
-use Rattle.std.specs.Str.{bytes_eq}
 use Rattle.std.proofs.lemmas.Bool.{cond_both}
 use Rattle.std.proofs.lemmas.Bool.Decides.{nat_tests}
 use Rattle.std.proofs.lemmas.List.Elements.{All-push, All-nil, All-cons, All-head, All-tail}
@@ -16,11 +15,10 @@ use Rattle.wt_ddl.specs.declared.draft.ColumnList.TheVariants as lists
 use Rattle.wt_ddl.specs.declared.draft.OpenReference.{OpenReference}
 use Rattle.wt_ddl.specs.declared.draft.Rule.{Rule}
 use Rattle.wt_ddl.specs.declared.draft.Rule.TheVariants as rules
-use Rattle.wt_ddl.specs.declared.draft.Target.{Target}
 use Rattle.wt_ddl.specs.declared.draft.TableDraft.{TableDraft}
 use Rattle.wt_ddl.specs.declared.draft.TableRead.{TableRead}
 use Rattle.wt_ddl.specs.Settling.{chain, in_turn, column_number, is_among, new_number, list_one, numbers, with_key_by, with_reference_by, add_rule, settled}
-use Rattle.wt_ddl.proofs.Lawful.{IsListed, IsRule, IsDraft, Whole, IsBegun}
+use Rattle.wt_ddl.proofs.Lawful.{IsListed, IsRule, Whole, IsBegun}
 
 -- ---- what holds of a value, where there is one
 
@@ -98,9 +96,15 @@ pub record IsOpen (width : ℕ) (r : OpenReference) : Type 0 where
   pub some : 1 ≤ length r.columns
   pub within : Within width r.columns
 
+-- the columns of a primary key, where there is one, are columns of the table
+abbrev pub IsPrimary : ℕ → Option (List ℕ) → Type 0
+IsPrimary width None = Unit {0}
+IsPrimary width (Some ns) = Within width ns
+
 pub record IsSettling (columns : List Column) (t : TableRead) : Type 0 where
   pub same : t.columns ≡ columns
   pub keys : All (IsKey (length columns)) t.keys
+  pub primary : IsPrimary (length columns) t.primary
   pub references : All (IsOpen (length columns)) t.references
 
 add_rule_law : (columns : List Column) (t : TableRead) (r : Rule) → IsSettling columns t → IsRule (length columns) r
@@ -112,6 +116,7 @@ add_rule_law columns t (rules.Key k) h is =
       record {
         same = h.same;
         keys = All-push (IsKey (length columns)) t.keys (record { columns = ns; primary = k.primary }) h.keys (record { some = found.0; within = found.1 });
+        primary = cond_both k.primary (Some ns) t.primary (IsPrimary (length columns)) (λ _. found.1) (λ _. h.primary);
         references = h.references;
       },
       refl,
@@ -124,6 +129,7 @@ add_rule_law columns t (rules.Reference r) h is =
       record {
         same = h.same;
         keys = h.keys;
+        primary = h.primary;
         references = All-push (IsOpen (length columns)) t.references (record { columns = ns; target = r.target }) h.references (record { some = found.0; within = found.1 });
       },
       refl,
@@ -152,6 +158,7 @@ pub record IsClosed (T N : List ℕ → Type 0) (t : TableRead) : Type 0 where
   pub named : All (λ c. N c.name) t.columns
   pub differ : AllPairs (λ a b. a.name ≢ b.name) t.columns
   pub keys : All (IsKey (length t.columns)) t.keys
+  pub primary : IsPrimary (length t.columns) t.primary
   pub references : All (IsOpen (length t.columns)) t.references
 
 no_key : (width : ℕ) (keys : List Key) → All (IsKey width) keys → 1 ≤ length keys → 1 ≤ width
@@ -186,10 +193,10 @@ pub settled_law : (T N : List ℕ → Type 0) (d : TableDraft) → Whole T N d �
 unfolding settled
 settled_law T N d h begun =
     closed (in_turn add_rule start d.rules)
-    (rules_law d.columns d.rules start (record { same = refl; keys = All-nil (IsKey (length d.columns)); references = All-nil (IsOpen (length d.columns)) }) h.ruled)
+    (rules_law d.columns d.rules start (record { same = refl; keys = All-nil (IsKey (length d.columns)); primary = tt; references = All-nil (IsOpen (length d.columns)) }) h.ruled)
   where
     start : TableRead
-    start = record { name = d.name; columns = d.columns; keys = []; references = [] }
+    start = record { name = d.name; columns = d.columns; keys = []; primary = None; references = [] }
 
     closed : (r : Result TableRead DdlError) → IfDone (λ u. IsSettling d.columns u × (u.name ≡ d.name) × (length u.keys + length u.references ≡ length {A = Key} [] + length {A = OpenReference} [] + length d.rules)) r → IfDone (IsClosed T N) r
     closed (Ok u) (is, name, count) =
@@ -203,6 +210,7 @@ settled_law T N d h begun =
           named = subst (λ (cs : List Column). All (λ c. N c.name) cs) (sym is.same) h.named;
           differ = subst (λ (cs : List Column). AllPairs (λ a b. a.name ≢ b.name) cs) (sym is.same) h.differ;
           keys = keys;
+          primary = subst (λ w. IsPrimary w u.primary) (sym same) is.primary;
           references = references;
         }
     closed (Err e) x = tt

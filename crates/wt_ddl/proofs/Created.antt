@@ -1,5 +1,5 @@
 -- The tables of a text: at most 256, with different names, each closed.
-use Rattle.std.proofs.Common.{◌≡◌, ◌≢◌, ℕ, zero, suc, ◌+◌, ◌-◌, ◌<◌, ◌≤◌, Bool, true, false, not, List, [], ◌∷◌, ◌++◌, length, drop, get_or, refl, ap, sym, ◌∙◌, subst, arith, length-append, Option, Some, None, Result, Ok, Err}
+use Rattle.std.proofs.Common.{◌≡◌, ◌≢◌, ℕ, zero, suc, ◌<◌, ◌≤◌, Bool, true, false, List, [], ◌∷◌, ◌++◌, length, drop, get_or, refl, sym, ◌∙◌, subst, arith, length-append, Result, Ok, Err}
 use Rattle.std.specs.Prelude.{nat_le, codes, ◌||◌, ◌&&◌}
 use Rattle.std.specs.List.{All, AllPairs}
 use Rattle.std.specs.Str.{bytes_eq}
@@ -15,7 +15,7 @@ use Rattle.wt_ddl.specs.Fronts.{Tokens, is_open, is_close, is_semi, at_kind, at_
 use Rattle.wt_ddl.specs.Reading as spec
 use Rattle.wt_ddl.specs.Reading.{Read}
 use Rattle.wt_ddl.specs.Settling.{settled}
-use Rattle.wt_ddl.proofs.Lawful.{IfRead, read_plus, read_followed, read_behind, read_repeat, read_is, Whole, IsBegun, empty_law, element_law, more_elements_law}
+use Rattle.wt_ddl.proofs.Lawful.{IfRead, read_plus, read_followed, read_behind, read_repeat, Whole, IsBegun, empty_law, element_law, more_elements_law}
 use Rattle.wt_ddl.proofs.Closed.{IfDone, IsClosed, settled_law}
 
 pub record AreTables (N : List ℕ → Type 0) (tables : List TableRead) : Type 0 where
@@ -45,7 +45,7 @@ abbrev ClosedAs : List ℕ → (List ℕ → Type 0) → TableRead → Type 0
 ClosedAs name N t = IsClosed (λ other. other ≡ name) N t
 
 named_as : (N : List ℕ → Type 0) (name : List ℕ) (t : TableRead) → N name → ClosedAs name N t → IsClosed N N t
-named_as N name t is h = record { name = subst N (sym h.name) is; some = h.some; few = h.few; named = h.named; differ = h.differ; keys = h.keys; references = h.references }
+named_as N name t is h = record { name = subst N (sym h.name) is; some = h.some; few = h.few; named = h.named; differ = h.differ; keys = h.keys; primary = h.primary; references = h.references }
 
 one_more : (N : List ℕ → Type 0) (tables : List TableRead) (name : List ℕ) (t : TableRead) → AreTables N tables → length tables < 256 → spec.has_table tables name ≡ false → N name → ClosedAs name N t → AreTables N (tables ++ t ∷ [])
 one_more N tables name t h few new is closed = record {

@@ -1,5 +1,5 @@
 -- The first of the tokens that are left is the token at their place.
-use Rattle.std.proofs.Common.{◌≡◌, ℕ, zero, suc, List, [], ◌∷◌, drop, refl, Some}
+use Rattle.std.proofs.Common.{◌≡◌, ℕ, zero, suc, List, [], ◌∷◌, drop, Some}
 use Rattle.std.specs.Prelude.{slice_get}
 use Rattle.wt_lex.specs.declared.token.Token.{Token}
 use Rattle.wt_ddl.specs.Fronts.{first}

@@ -1,7 +1,7 @@
 -- What is read of tables is lawful: names, columns and rules.
-use Rattle.std.proofs.Common.{◌≡◌, ◌≢◌, ℕ, zero, suc, ◌+◌, ◌-◌, ◌<◌, ◌≤◌, Bool, true, false, not, List, [], ◌∷◌, ◌++◌, length, drop, get_or, refl, ap, sym, ◌∙◌, subst, arith, length-append, Option, Some, None, Result, Ok, Err}
-use Rattle.std.specs.Prelude.{if◌then◌else◌, ◌==◌, nat_le, codes, ◌||◌}
-use Rattle.std.specs.List.{All, AllPairs, AllByRecursion, list_any}
+use Rattle.std.proofs.Common.{◌≡◌, ◌≢◌, ℕ, zero, suc, ◌+◌, ◌-◌, ◌<◌, ◌≤◌, Bool, true, false, List, [], ◌∷◌, ◌++◌, length, drop, get_or, refl, ap, sym, ◌∙◌, subst, arith, length-append, Ok, Err}
+use Rattle.std.specs.Prelude.{nat_le, codes, ◌||◌}
+use Rattle.std.specs.List.{All, AllPairs}
 use Rattle.std.specs.Str.{IsUtf8, bytes_eq}
 use Rattle.std.proofs.lemmas.Bool.{cond_both}
 use Rattle.std.proofs.lemmas.Bool.Decides.{nat_tests}
@@ -9,16 +9,14 @@ use Rattle.std.proofs.lemmas.List.Elements.{All-push, All-nil, All-weaker}
 use Rattle.std.proofs.lemmas.List.Quantifiers.{all_pairs_push}
 use Rattle.std.proofs.lemmas.Slice.Eq.{bytes_eq-Decides}
 use Rattle.std.proofs.lemmas.Str.{is_utf8-from_IsUtf8}
-use Rattle.wt_lex.specs.declared.token.Token.{Token}
 use Rattle.wt_lex.specs.declared.token.TokenKind.{TokenKind}
 use Rattle.wt_lex.specs.declared.token.TokenKind.TheVariants as kinds
 use Rattle.wt_lex.specs.Names.{IsNamed, name_bytes, spelled}
-use Rattle.wt_lex.specs.Sound.{StandsIn, AllStandIn}
+use Rattle.wt_lex.specs.Sound.{AllStandIn}
 use Rattle.wt_lex.proofs.Naming.{name_stands}
 use Rattle.wt_schema.specs.declared.schema.ColKind.{ColKind}
 use Rattle.wt_schema.specs.declared.schema.Column.{Column}
 use Rattle.wt_schema.specs.Lawful.{IsName}
-use Rattle.wt_ddl.specs.declared.fault.DdlError.{DdlError}
 use Rattle.wt_ddl.specs.declared.draft.Named.{Named}
 use Rattle.wt_ddl.specs.declared.draft.ColumnList.{ColumnList}
 use Rattle.wt_ddl.specs.declared.draft.ColumnList.TheVariants as lists
@@ -26,7 +24,7 @@ use Rattle.wt_ddl.specs.declared.draft.Rule.{Rule}
 use Rattle.wt_ddl.specs.declared.draft.Rule.TheVariants as rules
 use Rattle.wt_ddl.specs.declared.draft.Target.{Target}
 use Rattle.wt_ddl.specs.declared.draft.TableDraft.{TableDraft}
-use Rattle.wt_ddl.specs.Fronts.{Tokens, first, is_name, names_by, at_kind, is_open, is_close, is_comma, is_some_word, at_word}
+use Rattle.wt_ddl.specs.Fronts.{Tokens, is_name, names_by, at_kind, is_open, is_close, is_comma, is_some_word, at_word}
 use Rattle.wt_ddl.specs.Reading as spec
 use Rattle.wt_ddl.specs.Reading.{Read, plus, followed, repeat, onward}
 

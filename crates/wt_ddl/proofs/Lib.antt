@@ -7,4 +7,5 @@ pub mod LinkedUp
 pub mod Repeats
 pub mod Schemed
 pub mod Settled
+pub mod Sound
 pub mod Turns

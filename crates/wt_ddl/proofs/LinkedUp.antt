@@ -1,8 +1,7 @@
 -- Tables with their references are a schema.
-use Rattle.std.proofs.Common.{◌≡◌, ◌≢◌, ℕ, zero, suc, ◌+◌, ◌-◌, ◌<◌, ◌≤◌, Bool, true, false, List, [], ◌∷◌, ◌++◌, length, get_or, refl, ap, sym, ◌∙◌, subst, arith, length-append, append-nil, append_assoc, map, Option, Some, None, Result, Ok, Err}
-use Rattle.std.specs.Prelude.{position, slice_get, ◌==◌}
-use Rattle.std.specs.List.{All, AllPairs, list_any, zip}
-use Rattle.std.specs.Str.{bytes_eq}
+use Rattle.std.proofs.Common.{◌≡◌, ◌≢◌, ℕ, zero, suc, ◌+◌, ◌<◌, ◌≤◌, true, List, [], ◌∷◌, ◌++◌, length, refl, ap, sym, subst, arith, length-append, append-nil, append_assoc, Option, Some, None, Result, Ok, Err}
+use Rattle.std.specs.Prelude.{slice_get, ◌==◌}
+use Rattle.std.specs.List.{All, AllPairs, list_any}
 use Rattle.std.proofs.lemmas.Bool.{cond_both}
 use Rattle.std.proofs.lemmas.Bool.Decides.{nat_tests}
 use Rattle.std.proofs.lemmas.List.Elements.{All-push, All-nil, All-cons, All-head, All-tail}
@@ -11,14 +10,14 @@ use Rattle.wt_schema.specs.declared.schema.Column.{Column}
 use Rattle.wt_schema.specs.declared.schema.Key.{Key}
 use Rattle.wt_schema.specs.declared.schema.Reference.{Reference}
 use Rattle.wt_schema.specs.declared.schema.Table.{Table}
-use Rattle.wt_schema.specs.Lawful.{IsName, IsKey, HasColumns, IsReference, IsTable, IsSchema, width_of}
+use Rattle.wt_schema.specs.Lawful.{IsName, IsKey, IsReference, IsTable, IsSchema, width_of}
 use Rattle.wt_ddl.specs.declared.fault.DdlError.{DdlError}
 use Rattle.wt_ddl.specs.declared.draft.Named.{Named}
 use Rattle.wt_ddl.specs.declared.draft.OpenReference.{OpenReference}
 use Rattle.wt_ddl.specs.declared.draft.TableRead.{TableRead}
-use Rattle.wt_ddl.specs.Settling.{chain, in_turn, column_number}
-use Rattle.wt_ddl.specs.Linking.{table_number, found, find_one, has_exactly, primary_of, same_kinds, primary_target, named_target, target_columns, linked_to, linked_at, linked_by, linked, link_one, link_table, with_links, all_with_links, linked_tables}
-use Rattle.wt_ddl.proofs.Closed.{IfDone, done_chain, IfFound, position_within, Within, IsOpen, IsClosed}
+use Rattle.wt_ddl.specs.Settling.{in_turn, column_number}
+use Rattle.wt_ddl.specs.Linking.{table_number, found, find_one, has_exactly, same_kinds, primary_target, named_target, target_columns, linked_at, linked_by, linked, link_one, link_table, with_links, all_with_links, linked_tables}
+use Rattle.wt_ddl.proofs.Closed.{IfDone, done_chain, IfFound, position_within, Within, IsOpen, IsPrimary, IsClosed}
 use Rattle.wt_ddl.proofs.Created.{AreTables}
 
 -- ---- the columns of a target
@@ -49,12 +48,10 @@ OfWidth columns width ns = Within columns ns × (length ns ≡ width)
 same_number : (a b : ℕ) → (a == b) ≡ true → a ≡ b
 same_number a b h = grind (arith, nat_tests)
 
-primary_law : (columns width at : ℕ) (keys : List Key) → All (IsKey columns) keys → IfDone (OfWidth columns width) (primary_target (primary_of keys) width at)
-primary_law columns width at [] h = tt
-primary_law columns width at (k ∷ ks) h =
-    cond_both k.primary _ _ (λ (o : Option (List ℕ)). IfDone (OfWidth columns width) (primary_target o width at))
-    (λ _. cond_both (length k.columns == width) _ _ (IfDone (OfWidth columns width)) (λ e. ((All-head (IsKey columns) k ks h).within, same_number (length k.columns) width e)) (λ _. tt))
-    (λ _. primary_law columns width at ks (All-tail (IsKey columns) k ks h))
+primary_law : (columns width at : ℕ) (primary : Option (List ℕ)) → IsPrimary columns primary → IfDone (OfWidth columns width) (primary_target primary width at)
+primary_law columns width at None h = tt
+primary_law columns width at (Some ns) h =
+    cond_both (length ns == width) _ _ (IfDone (OfWidth columns width)) (λ e. (h, same_number (length ns) width e)) (λ _. tt)
 
 named_law : (t : TableRead) (ns : List Named) (width at : ℕ) → IfDone (OfWidth (length t.columns) width) (named_target t ns width at)
 named_law t ns width at =
@@ -64,8 +61,8 @@ named_law t ns width at =
     (λ all x. cond_both (list_any (has_exactly all) t.keys) _ _ (IfDone (OfWidth (length t.columns) width)) (λ _. (x.0, omega (arith, x.1, same_number (length ns) width e))) (λ _. tt)))
     (λ _. tt)
 
-target_law : (t : TableRead) (ns : Option (List Named)) (width at : ℕ) → All (IsKey (length t.columns)) t.keys → IfDone (OfWidth (length t.columns) width) (target_columns t ns width at)
-target_law t None width at h = primary_law (length t.columns) width at t.keys h
+target_law : (t : TableRead) (ns : Option (List Named)) (width at : ℕ) → IsPrimary (length t.columns) t.primary → IfDone (OfWidth (length t.columns) width) (target_columns t ns width at)
+target_law t None width at h = primary_law (length t.columns) width at t.primary h
 target_law t (Some ns) width at h = named_law t ns width at
 
 -- ---- one reference
@@ -101,7 +98,7 @@ linked_law N tables columns r h is = by (table_number tables r.target.table.name
     at_table n (Some t) e =
         let (l, w, c) = place_of N tables n t h e in
         done_chain (OfWidth (length t.columns) (length r.columns)) (IsLinked tables (length columns)) (target_columns t r.target.columns (length r.columns) r.target.table.at) _
-        (target_law t r.target.columns (length r.columns) r.target.table.at c.keys)
+        (target_law t r.target.columns (length r.columns) r.target.table.at c.primary)
         (λ there x. cond_both (same_kinds columns r.columns t.columns there) _ _ (IfDone (IsLinked tables (length columns)))
         (λ _. record { some = is.some; equally_many = x.1; within = is.within; table = l; target = subst (λ k. Within k there) (sym w) x.0 })
         (λ _. tt))

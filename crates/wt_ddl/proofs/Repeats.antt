@@ -1,5 +1,5 @@
 -- One turn of a loop over parts that each change the value so far.
-use Rattle.std.proofs.Common.{◌≡◌, not, ℕ, suc, zero, ◌+◌, ◌-◌, ◌<◌, ◌≤◌, Bool, true, false, List, [], ◌∷◌, length, drop, refl, ap, sym, ◌∙◌, arith, add-zero, add-one, length-drop, Result, Ok, Err}
+use Rattle.std.proofs.Common.{◌≡◌, not, ℕ, suc, zero, ◌+◌, ◌-◌, ◌≤◌, Bool, true, false, List, [], ◌∷◌, length, drop, refl, ap, sym, ◌∙◌, arith, add-zero, Result, Ok, Err}
 use Rattle.std.proofs.lemmas.List.{drop-drop}
 use Rattle.std.specs.Result.{IsErrAnd}
 use Rattle.std.proofs.lemmas.Result.{err_from_is_err_and}

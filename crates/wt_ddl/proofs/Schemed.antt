@@ -1,5 +1,5 @@
 -- What a whole text is as a schema, by its tokens; and that what is read is a schema.
-use Rattle.std.proofs.Common.{◌≡◌, ℕ, zero, suc, ◌+◌, ◌<◌, ◌≤◌, List, [], ◌∷◌, length, drop, refl, ap, sym, ◌∙◌, subst, arith, Option, Some, None, Result, Ok, Err}
+use Rattle.std.proofs.Common.{◌≡◌, ℕ, zero, suc, ◌+◌, ◌≤◌, List, [], ◌∷◌, length, drop, refl, ap, sym, ◌∙◌, arith, Option, Some, None, Result, Ok, Err}
 use Rattle.std.specs.Prelude.{slice_get}
 use Rattle.std.specs.List.{All}
 use Rattle.std.specs.Result.{IsErrAnd}
@@ -19,6 +19,8 @@ use Rattle.wt_ddl.specs.declared.fault.DdlError.{DdlError}
 use Rattle.wt_ddl.specs.declared.fault.DdlError.TheVariants as errors
 use Rattle.wt_ddl.specs.declared.draft.TableRead.{TableRead}
 use Rattle.wt_ddl.specs.Fronts.{Tokens}
+use Rattle.wt_ddl.specs.Grammar.{IsText}
+use Rattle.wt_ddl.specs.Linking.{linked_tables}
 use Rattle.wt_ddl.specs.Reading as spec
 use Rattle.wt_ddl.specs.Reading.{Read}
 use Rattle.wt_ddl.specs.Schemas.{Lexes, Reads, odd_by, first_odd, linked_up, unless_odd, of_tokens, schema_of}
@@ -27,6 +29,7 @@ use Rattle.wt_ddl.proofs.Lawful.{IfRead, read_is, name_law, good_drop, No_fact, 
 use Rattle.wt_ddl.proofs.Closed.{IfDone, done_is, IsClosed}
 use Rattle.wt_ddl.proofs.Created.{AreTables, statements_law}
 use Rattle.wt_ddl.proofs.LinkedUp.{linked_tables_law}
+use Rattle.wt_ddl.proofs.Sound.{sentence_law}
 
 -- ---- the first odd token
 
@@ -119,3 +122,28 @@ pub tables_few : (bytes : List ℕ) (ts : Tokens) (tables : List TableRead) (n :
 tables_few bytes ts tables n e =
     let is : AreTables No_fact tables = read_is (AreTables No_fact) (spec.statements bytes ts) tables n (statements_law bytes No_fact No_claim (λ i l g. tt) (λ l g. no_names bytes l) ts tt) e in
     (is.few, All-weaker (IsClosed No_fact No_fact) (λ t. length t.columns ≤ 64) (λ t h. h.few) tables is.closed)
+
+-- ---- what is read is a sentence
+
+done_always : {A : Type 0} (S : Type 0) (r : Result A DdlError) → S → IfDone (λ _. S) r
+done_always S (Ok a) s = s
+done_always S (Err e) s = tt
+
+whole_sentence : (bytes : List ℕ) → IfDone (λ _. IsText bytes) (schema_of bytes)
+unfolding schema_of
+whole_sentence bytes = by (lexed bytes) refl
+  where
+    up : (ts : Tokens) → lexed bytes ≡ Ok ts → (r : Read (List TableRead)) → spec.statements bytes ts ≡ r → IfDone (λ _. IsText bytes) (linked_up r)
+    up ts e (Ok x) f = done_always (IsText bytes) (linked_tables x.0) (ts, e, sentence_law bytes ts x.0 x.1 f)
+    up ts e (Err error) f = tt
+
+    odd : (ts : Tokens) → lexed bytes ≡ Ok ts → (o : Option DdlError) → IfDone (λ _. IsText bytes) (unless_odd bytes ts o)
+    odd ts e None = up ts e (spec.statements bytes ts) refl
+    odd ts e (Some error) = tt
+
+    by : (r : Result Tokens (LexFault × ℕ)) → lexed bytes ≡ r → IfDone (λ _. IsText bytes) (of_tokens bytes r)
+    by (Ok ts) e = odd ts e (first_odd ts)
+    by (Err f) e = tt
+
+pub text_law : (bytes : List ℕ) (tables : List Table) → schema_of bytes ≡ Ok tables → IsText bytes
+text_law bytes tables e = done_is (λ _. IsText bytes) (schema_of bytes) tables (whole_sentence bytes) e

@@ -1,5 +1,5 @@
 -- What settling a table's rules keeps.
-use Rattle.std.proofs.Common.{◌≡◌, ℕ, List, [], ◌∷◌, length, refl, ap, sym, ◌∙◌, Result, Ok, Err}
+use Rattle.std.proofs.Common.{◌≡◌, refl, ap, sym, Result, Ok, Err}
 use Rattle.wt_ddl.specs.declared.fault.DdlError.{DdlError}
 use Rattle.wt_ddl.specs.declared.draft.Rule.{Rule}
 use Rattle.wt_ddl.specs.declared.draft.Rule.TheVariants as rules

@@ -1,4 +1,5 @@
 pub mod Fronts
+pub mod Grammar
 pub mod Linking
 pub mod Reading
 pub mod Schemas

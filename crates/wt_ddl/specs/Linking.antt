@@ -1,5 +1,5 @@
 -- What stands behind the last statement: each reference's target, in text order.
-use Rattle.std.specs.Prelude.{position, slice_get, map, ℕ, zero, suc, ◌+◌, Bool, true, false, not, ◌&&◌, if◌then◌else◌, ◌==◌, List, [], ◌∷◌, ◌++◌, length, Option, Some, None, Result, Ok, Err}
+use Rattle.std.specs.Prelude.{position, slice_get, map, ℕ, zero, suc, Bool, true, false, ◌&&◌, if◌then◌else◌, ◌==◌, List, [], ◌∷◌, ◌++◌, length, Option, Some, None, Result, Ok, Err}
 use Rattle.std.specs.List.{list_any, list_all, zip}
 use Rattle.std.specs.Str.{bytes_eq}
 use Rattle.wt_schema.specs.declared.schema.ColKind.{ColKind}
@@ -36,10 +36,6 @@ find_one columns seen n = found seen (column_number columns n.name) n.at
 abbrev pub has_exactly : List ℕ → Key → Bool
 has_exactly columns key = (length key.columns == length columns) && list_all (λ c. is_among c columns) key.columns
 
-abbrev pub primary_of : List Key → Option (List ℕ)
-primary_of [] = None
-primary_of (k ∷ ks) = if k.primary then Some k.columns else primary_of ks
-
 abbrev pub same_kind : ColKind → ColKind → Bool
 same_kind col.Int col.Int = true
 same_kind col.Text col.Text = true
@@ -68,7 +64,7 @@ named_target t ns width at =
     else wrong fault.ReferenceWidth at
 
 abbrev pub target_columns : TableRead → Option (List Named) → ℕ → ℕ → Result (List ℕ) DdlError
-target_columns t None width at = primary_target (primary_of t.keys) width at
+target_columns t None width at = primary_target t.primary width at
 target_columns t (Some ns) width at = named_target t ns width at
 
 -- and last the same kinds, pair by pair

@@ -18,8 +18,6 @@ use Rattle.wt_ddl.specs.declared.fault.DdlError.TheVariants as errors
 use Rattle.wt_ddl.specs.declared.draft.Named.{Named}
 use Rattle.wt_ddl.specs.declared.draft.ColumnList.{ColumnList}
 use Rattle.wt_ddl.specs.declared.draft.ColumnList.TheVariants as lists
-use Rattle.wt_ddl.specs.declared.draft.KeyRule.{KeyRule}
-use Rattle.wt_ddl.specs.declared.draft.ReferenceRule.{ReferenceRule}
 use Rattle.wt_ddl.specs.declared.draft.Rule.{Rule}
 use Rattle.wt_ddl.specs.declared.draft.Rule.TheVariants as rules
 use Rattle.wt_ddl.specs.declared.draft.Target.{Target}

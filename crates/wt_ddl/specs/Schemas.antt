@@ -3,7 +3,6 @@ use Rattle.std.specs.Prelude.{◌≡◌, ℕ, List, [], ◌∷◌, Option, Some,
 use Rattle.wt_lex.specs.declared.token.LexFault.{LexFault}
 use Rattle.wt_lex.specs.declared.token.TokenKind.{TokenKind}
 use Rattle.wt_lex.specs.declared.token.TokenKind.TheVariants as kinds
-use Rattle.wt_lex.specs.declared.token.Token.{Token}
 use Rattle.wt_lex.specs.Tokens.{lexed}
 use Rattle.wt_schema.specs.declared.schema.Schema.{Schema}
 use Rattle.wt_schema.specs.declared.schema.Table.{Table}

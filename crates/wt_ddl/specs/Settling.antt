@@ -1,5 +1,5 @@
 -- What stands at a table's closing parenthesis: the names in its column lists become numbers, in text order.
-use Rattle.std.specs.Prelude.{◌≡◌, ℕ, position, true, Bool, if◌then◌else◌, ◌==◌, List, [], ◌∷◌, ◌++◌, Option, Some, None, Result, Ok, Err}
+use Rattle.std.specs.Prelude.{◌≡◌, ℕ, position, Bool, if◌then◌else◌, ◌==◌, List, [], ◌∷◌, ◌++◌, Option, Some, None, Result, Ok, Err}
 use Rattle.std.specs.List.{list_any}
 use Rattle.std.specs.Str.{bytes_eq}
 use Rattle.wt_schema.specs.declared.schema.Column.{Column}
@@ -66,10 +66,10 @@ numbers columns (lists.Own n) = Ok (n ∷ [])
 numbers columns (lists.Listed ns) = in_turn (list_one columns) [] ns
 
 abbrev pub with_key_by : TableRead → Bool → List ℕ → TableRead
-with_key_by t primary ns = record { name = t.name; columns = t.columns; keys = t.keys ++ record { columns = ns; primary = primary } ∷ []; references = t.references }
+with_key_by t primary ns = record { name = t.name; columns = t.columns; keys = t.keys ++ record { columns = ns; primary = primary } ∷ []; primary = if primary then Some ns else t.primary; references = t.references }
 
 abbrev pub with_reference_by : TableRead → Target → List ℕ → TableRead
-with_reference_by t target ns = record { name = t.name; columns = t.columns; keys = t.keys; references = t.references ++ record { columns = ns; target = target } ∷ [] }
+with_reference_by t target ns = record { name = t.name; columns = t.columns; keys = t.keys; primary = t.primary; references = t.references ++ record { columns = ns; target = target } ∷ [] }
 
 abbrev pub add_rule : TableRead → Rule → Result TableRead DdlError
 add_rule t (rules.Key k) = chain (numbers t.columns k.columns) (λ ns. Ok (with_key_by t k.primary ns))
@@ -77,4 +77,4 @@ add_rule t (rules.Reference r) = chain (numbers t.columns r.columns) (λ ns. Ok 
 
 -- the table with its keys and references by numbers, or the first fault of its lists
 unfoldable pub settled : TableDraft → Result TableRead DdlError
-settled d = in_turn add_rule (record { name = d.name; columns = d.columns; keys = []; references = [] }) d.rules
+settled d = in_turn add_rule (record { name = d.name; columns = d.columns; keys = []; primary = None; references = [] }) d.rules

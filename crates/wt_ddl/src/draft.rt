@@ -61,12 +61,13 @@ pub(crate) struct OpenReference {
 
 pub(crate) type OpenReferences = Seq<OpenReference>;
 
-/// A table whose parenthesis is closed.
+/// A table whose parenthesis is closed; `primary` has the columns of its primary key.
 #[derive(Debug, Drop)]
 pub(crate) struct TableRead {
     pub name: Name,
     pub columns: Columns,
     pub keys: Keys,
+    pub primary: Option<Cols>,
     pub references: OpenReferences,
 }
 

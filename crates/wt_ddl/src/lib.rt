@@ -6,6 +6,7 @@ mod fault;
 mod kinds;
 mod linking;
 mod names;
+mod places;
 mod reading;
 mod rest;
 mod rules;

@@ -6,7 +6,8 @@ ghost use Rattle.wt_ddl.specs.Settling.{Agrees, Puts, in_turn, is_among};
 
 use crate::draft::{Named, NamedList, OpenReference, TableRead, TablesRead};
 use crate::fault::{DdlError, DdlFault};
-use crate::settling::{column_number, is_among};
+use crate::places::{KeyPlaces, places_of};
+use crate::settling::{column_number, copied, is_among};
 use std::alloc::Global;
 use wt_schema::{ColKind, Column, Key, Reference, References, Table, Tables};
 use wt_value::{Cols, Name, Seq};
@@ -60,32 +61,25 @@ fn all_among(numbers: &[u32], columns: &[u32]) -> bool
     numbers.iter().all(|number| is_among(*number, columns))
 }
 
-fn is_key(columns: &[u32], keys: &[Key]) -> bool
+fn is_key(columns: &[u32], keys: &[Key], places: Option<&KeyPlaces>) -> bool
+    ensures { result ≡ list_any (spec.has_exactly columns.now) keys.now }
+{
+    if let Some(place) = place_of(columns, places) {
+        if place < keys.len() && has_exactly(columns, &keys[place]) {
+            return true;
+        }
+    }
+    any_exactly(columns, keys)
+}
+
+fn place_of(columns: &[u32], places: Option<&KeyPlaces>) -> Option<usize> {
+    places?.find(columns)
+}
+
+fn any_exactly(columns: &[u32], keys: &[Key]) -> bool
     ensures { result ≡ list_any (spec.has_exactly columns.now) keys.now }
 {
     keys.iter().any(|key| has_exactly(columns, key))
-}
-
-// The columns of the primary key, where there is one.
-fn primary_of(keys: &[Key]) -> Result<Option<Cols>, DdlError>
-    ensures ok { IfOk result (λ columns. columns ≡ spec.primary_of keys.now) }
-    ensures err { IfErr result (λ e. e ≡ DdlError.Memory) }
-{
-    let mut i = 0;
-    'keys: while i < keys.len() {
-        if keys[i].primary {
-            return Ok(Some(copied(&keys[i].columns)?));
-        }
-        i += 1;
-    }
-    Ok(None)
-}
-
-fn copied(columns: &Cols) -> Result<Cols, DdlError>
-    ensures ok { IfOk result (λ copy. copy ≡ columns.now) }
-    ensures err { IfErr result (λ e. e ≡ DdlError.Memory) }
-{
-    Ok(columns.clone()?)
 }
 
 fn same_kind(a: ColKind, b: ColKind) -> bool
@@ -126,8 +120,8 @@ fn same_kinds(here: &[Column], mut from: &[u32], there: &[Column], mut to: &[u32
     true
 }
 
-fn primary_target(primary: Option<Cols>, width: usize, at: u32) -> Result<Cols, DdlError>
-    ensures { Agrees result (spec.primary_target primary width at) }
+fn primary_target(primary: &Option<Cols>, width: usize, at: u32) -> Result<Cols, DdlError>
+    ensures { Agrees result (spec.primary_target primary.now width at) }
 {
     let Some(columns) = primary else {
         return Err(DdlError::Fault(DdlFault::ReferenceNotKey, at));
@@ -135,12 +129,13 @@ fn primary_target(primary: Option<Cols>, width: usize, at: u32) -> Result<Cols, 
     if columns.len() != width {
         return Err(DdlError::Fault(DdlFault::ReferenceWidth, at));
     }
-    Ok(columns)
+    copied(columns)
 }
 
 fn named_target(
     alloc: Global,
     table: &TableRead,
+    places: Option<&KeyPlaces>,
     names: &[Named],
     width: usize,
     at: u32,
@@ -152,7 +147,7 @@ fn named_target(
         return Err(DdlError::Fault(DdlFault::ReferenceWidth, at));
     }
     let columns = found(alloc, table.columns.as_slice(), names)?;
-    if !is_key(columns.as_slice(), table.keys.as_slice()) {
+    if !is_key(columns.as_slice(), table.keys.as_slice(), places) {
         return Err(DdlError::Fault(DdlFault::ReferenceNotKey, at));
     }
     Ok(columns)
@@ -161,6 +156,7 @@ fn named_target(
 fn target_columns(
     alloc: Global,
     table: &TableRead,
+    places: Option<&KeyPlaces>,
     names: &Option<NamedList>,
     width: usize,
     at: u32,
@@ -169,8 +165,8 @@ fn target_columns(
     ensures { Agrees result (spec.target_columns table.now names.now width at) }
 {
     match names {
-        None => primary_target(primary_of(table.keys.as_slice())?, width, at),
-        Some(names) => named_target(alloc, table, names.as_slice(), width, at),
+        None => primary_target(&table.primary, width, at),
+        Some(names) => named_target(alloc, table, places, names.as_slice(), width, at),
     }
 }
 
@@ -181,6 +177,7 @@ fn linked_to(
     reference: &OpenReference,
     number: u32,
     table: &TableRead,
+    places: Option<&KeyPlaces>,
 ) -> Result<Reference, DdlError>
     requires { length table.now.columns ≤ 64 }
     ensures { Agrees result (spec.linked_to columns.now reference.now number table.now) }
@@ -189,6 +186,7 @@ fn linked_to(
     let target = target_columns(
         alloc,
         table,
+        places,
         &reference.target.columns,
         reference.columns.len(),
         at,
@@ -213,6 +211,7 @@ fn linked_to(
 fn linked(
     alloc: Global,
     tables: &[TableRead],
+    places: &[KeyPlaces],
     columns: &[Column],
     reference: &OpenReference,
 ) -> Result<Reference, DdlError>
@@ -223,12 +222,20 @@ fn linked(
     let Some(number) = table_number(tables, &reference.target.table.name) else {
         return Err(DdlError::Fault(DdlFault::UnknownTable, reference.target.table.at));
     };
-    linked_to(alloc, columns, reference, number as u32, &tables[number])
+    linked_to(
+        alloc,
+        columns,
+        reference,
+        number as u32,
+        &tables[number],
+        places.get(number),
+    )
 }
 
 fn link_one(
     alloc: Global,
     tables: &[TableRead],
+    places: &[KeyPlaces],
     columns: &[Column],
     done: &mut References,
     reference: &OpenReference,
@@ -237,7 +244,7 @@ fn link_one(
     requires narrow { All (λ t. length t.columns ≤ 64) tables.now }
     ensures { Puts result done.new (spec.link_one tables.now columns.now done.old reference.now) }
 {
-    let one = linked(alloc, tables, columns, reference)?;
+    let one = linked(alloc, tables, places, columns, reference)?;
     done.push(one)?;
     Ok(())
 }
@@ -245,6 +252,7 @@ fn link_one(
 fn table_links(
     alloc: Global,
     tables: &[TableRead],
+    places: &[KeyPlaces],
     columns: &[Column],
     open: &[OpenReference],
 ) -> Result<References, DdlError>
@@ -255,7 +263,7 @@ fn table_links(
     let mut done = References::new(alloc);
     let mut i = 0;
     'references: while i < open.len() {
-        link_one(alloc, tables, columns, &mut done, &open[i])?;
+        link_one(alloc, tables, places, columns, &mut done, &open[i])?;
         i += 1;
     }
     Ok(done)
@@ -264,6 +272,7 @@ fn table_links(
 fn link_table(
     alloc: Global,
     tables: &[TableRead],
+    places: &[KeyPlaces],
     done: &mut Seq<References>,
     table: &TableRead,
 ) -> Result<(), DdlError>
@@ -274,6 +283,7 @@ fn link_table(
     let links = table_links(
         alloc,
         tables,
+        places,
         table.columns.as_slice(),
         table.references.as_slice(),
     )?;
@@ -286,10 +296,11 @@ fn all_links(alloc: Global, tables: &[TableRead]) -> Result<Seq<References>, Ddl
     requires narrow { All (λ t. length t.columns ≤ 64) tables.now }
     ensures { Agrees result (in_turn (spec.link_table tables.now) [] tables.now) }
 {
+    let places = places_of(alloc, tables)?;
     let mut done = Seq::new(alloc);
     let mut i = 0;
     'tables: while i < tables.len() {
-        link_table(alloc, tables, &mut done, &tables[i])?;
+        link_table(alloc, tables, &places, &mut done, &tables[i])?;
         i += 1;
     }
     Ok(done)

@@ -1,6 +1,7 @@
 //! Reads a whole schema.
-ghost use Rattle.std.specs.Prelude.{◌≡◌, ◌≤◌, ◌^◌, length, Ok};
+ghost use Rattle.std.specs.Prelude.{◌≡◌, ◌≤◌, ◌^◌, length, Ok, OnOk};
 ghost use Rattle.wt_lex.specs.Tokens.{lexed};
+ghost use Rattle.wt_ddl.specs.Grammar.{IsText};
 ghost use Rattle.wt_ddl.specs.Reading.{statements as statements_of};
 ghost use Rattle.wt_ddl.specs.Schemas as spec;
 ghost use Rattle.wt_ddl.specs.Settling.{Agrees};
@@ -16,7 +17,10 @@ use wt_schema::{Schema, Tables};
 /// The schema of a text of CREATE TABLE statements, or its first fault with its offset: the faults of tokens come first,
 /// then those that reading from left to right meets, then those of references.
 pub fn read_schema(alloc: Global, bytes: &[u8]) -> Result<Schema, DdlError>
-    ensures { spec.Reads result (spec.schema_of bytes.now) }
+    ensures exact { spec.Reads result (spec.schema_of bytes.now) }
+
+    // What is read is a sentence of the grammar.
+    ensures sentence { OnOk result (IsText bytes.now) }
 {
     let tokens = tokens_of(alloc, bytes)?;
     if let Some(error) = first_odd(&tokens) {

@@ -1,5 +1,5 @@
 //! The column lists of a table, at its closing parenthesis.
-ghost use Rattle.std.specs.Prelude.{◌≡◌, ◌≤◌, ◌<◌, [], length, IfSome};
+ghost use Rattle.std.specs.Prelude.{◌≡◌, ◌≤◌, ◌<◌, [], length, IfSome, IfOk, IfErr, OnOk};
 ghost use Rattle.wt_ddl.specs.Settling as spec;
 
 use crate::draft::{ColumnList, Named, OpenReference, OpenReferences, Rule, TableDraft, TableRead};
@@ -65,6 +65,25 @@ fn numbers(alloc: Global, columns: &[Column], list: &ColumnList) -> Result<Cols,
     }
 }
 
+/// A copy of column numbers.
+pub(crate) fn copied(columns: &Cols) -> Result<Cols, DdlError>
+    ensures ok { IfOk result (λ copy. copy ≡ columns.now) }
+    ensures err { IfErr result (λ e. e ≡ DdlError.Memory) }
+{
+    Ok(columns.clone()?)
+}
+
+fn add_key(table: &mut TableRead, columns: Cols, primary: bool) -> Result<(), DdlError>
+    ensures ok { OnOk result (table.new ≡ spec.with_key_by table.old primary columns) }
+    ensures err { IfErr result (λ e. e ≡ DdlError.Memory) }
+{
+    if primary {
+        table.primary = Some(copied(&columns)?);
+    }
+    table.keys.push(Key { columns, primary })?;
+    Ok(())
+}
+
 fn add_rule(alloc: Global, table: &mut TableRead, rule: Rule) -> Result<(), DdlError>
     requires { length table.old.columns ≤ 64 }
     ensures { spec.Puts result table.new (spec.add_rule table.old rule) }
@@ -72,10 +91,7 @@ fn add_rule(alloc: Global, table: &mut TableRead, rule: Rule) -> Result<(), DdlE
     match rule {
         Rule::Key(key) => {
             let columns = numbers(alloc, table.columns.as_slice(), &key.columns)?;
-            table.keys.push(Key {
-                columns,
-                primary: key.primary,
-            })?;
+            add_key(table, columns, key.primary)?;
         }
         Rule::Reference(reference) => {
             let columns = numbers(alloc, table.columns.as_slice(), &reference.columns)?;
@@ -108,6 +124,7 @@ pub(crate) fn settled(alloc: Global, draft: TableDraft) -> Result<TableRead, Ddl
         name: draft.name,
         columns: draft.columns,
         keys: Keys::new(alloc),
+        primary: None,
         references: OpenReferences::new(alloc),
     };
     add_rules(alloc, &mut table, draft.rules.into_vec())?;

@@ -301,14 +301,16 @@ fn many_tables(alloc: Global, tables: usize) -> Result<String, AllocError> {
 #[test]
 fn limits_refuse_where_they_are_passed(rt: HostRuntime) -> Result<(), AllocError> {
     let alloc = rt.alloc();
-    let most = wide_table(alloc, 64)?;
-    let wide = wide_table(alloc, 65)?;
-    assert!(rt; table_count(alloc, &most) == Some(1));
-    assert!(rt; fault_is(alloc, &wide, DdlFault::TooManyColumns, 582));
-    let most = many_tables(alloc, 256)?;
-    let many = many_tables(alloc, 257)?;
-    assert!(rt; table_count(alloc, &most) == Some(256));
-    assert!(rt; fault_is(alloc, &many, DdlFault::TooManyTables, 6559));
+    assert!(rt; table_count(alloc, &wide_table(alloc, 64)?) == Some(1));
+    for columns in [65, 66] {
+        let wide = wide_table(alloc, columns)?;
+        assert!(rt; fault_is(alloc, &wide, DdlFault::TooManyColumns, 582));
+    }
+    assert!(rt; table_count(alloc, &many_tables(alloc, 256)?) == Some(256));
+    for tables in [257, 258] {
+        let many = many_tables(alloc, tables)?;
+        assert!(rt; fault_is(alloc, &many, DdlFault::TooManyTables, 6559));
+    }
     Ok(())
 }
 

@@ -1,4 +1,4 @@
-use Rattle.std.proofs.Common.{◌∙◌, sym, ap, arith}
+use Rattle.std.proofs.Common.{arith}
 use Rattle.wt_ddl.proofs.Linked.{kind_at_within, kind_at_past}
 use Rattle.wt_ddl.proofs.linking.kind_at.Goals as goal
 

@@ -1,5 +1,5 @@
-use Rattle.std.proofs.Common.{◌≡◌, ◌∙◌, ◌≤◌, sym, ap, arith, length, length-drop, true}
-use Rattle.wt_ddl.specs.Fronts.{at_kind, is_comma, is_some_word}
+use Rattle.std.proofs.Common.{◌∙◌, ◌≤◌, sym, ap, arith, length, length-drop}
+use Rattle.wt_ddl.specs.Fronts.{at_kind, is_comma}
 use Rattle.wt_ddl.specs.Reading as spec
 use Rattle.wt_ddl.proofs.Repeats.{turn_fails, turn_goes, turn_stops, kind_some}
 use Rattle.wt_ddl.proofs.rules.more_elements.Goals as goal

@@ -1,5 +1,5 @@
 use Rattle.std.proofs.Common.{◌≡◌, ◌-◌, ◌≤◌, length, drop}
-use Rattle.wt_ddl.specs.Fronts.{at_kind, is_comma, is_some_word}
+use Rattle.wt_ddl.specs.Fronts.{at_kind, is_comma}
 use Rattle.wt_ddl.specs.Reading as spec
 use Rattle.wt_ddl.proofs.rules.more_elements.Given as goal
 

@@ -1,4 +1,4 @@
-use Rattle.std.proofs.Common.{◌≡◌, ◌∙◌, ◌++◌, ◌∷◌, [], sym, ap, arith, length, append_assoc}
+use Rattle.std.proofs.Common.{◌∙◌, ◌++◌, ◌∷◌, [], sym, ap, arith, length, append_assoc}
 use Rattle.std.specs.Vec.Iter.{into_iter_items}
 use Rattle.wt_ddl.specs.Settling.{add_rule}
 use Rattle.wt_ddl.proofs.Settled.{add_rule_columns}

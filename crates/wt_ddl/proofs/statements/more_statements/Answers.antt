@@ -1,4 +1,4 @@
-use Rattle.std.proofs.Common.{◌≡◌, ◌∙◌, ◌≤◌, sym, ap, arith, length, length-drop, true}
+use Rattle.std.proofs.Common.{ap, arith, length, length-drop}
 use Rattle.wt_ddl.specs.Reading as spec
 use Rattle.wt_ddl.proofs.Repeats.{turn_fails, turn_goes, turn_stops, left_some, left_true, left_false}
 use Rattle.wt_ddl.proofs.statements.more_statements.Goals as goal

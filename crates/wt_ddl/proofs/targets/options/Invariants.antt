@@ -1,5 +1,4 @@
 use Rattle.std.proofs.Common.{◌≡◌, ◌-◌, ◌≤◌, length, drop}
-use Rattle.wt_ddl.specs.Fronts.{at_kind, is_comma, is_some_word}
 use Rattle.wt_ddl.specs.Reading as spec
 use Rattle.wt_ddl.proofs.targets.options.Given as goal
 

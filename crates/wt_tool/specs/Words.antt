@@ -28,11 +28,20 @@ is_name word = not (bytes_eq word [])
 
 -- the greatest size of sources
 abbrev pub source_size : List ℕ → Option ℕ
-source_size word = if bytes_eq word (codes "src=1") then Some 1 else if bytes_eq word (codes "src=2") then Some 2 else None
+source_size word =
+    if bytes_eq word (codes "src=1") then Some 1
+    else if bytes_eq word (codes "src=2") then Some 2
+    else if bytes_eq word (codes "src=3") then Some 3
+    else None
 
 -- the greatest size of destinations
 abbrev pub destination_size : List ℕ → Option ℕ
-destination_size word = if bytes_eq word (codes "dst=0") then Some 0 else if bytes_eq word (codes "dst=1") then Some 1 else None
+destination_size word =
+    if bytes_eq word (codes "dst=0") then Some 0
+    else if bytes_eq word (codes "dst=1") then Some 1
+    else if bytes_eq word (codes "dst=2") then Some 2
+    else if bytes_eq word (codes "dst=3") then Some 3
+    else None
 
 -- the operators: F is bit 1, and D is bit 5
 abbrev pub letters : List ℕ → Option Ops

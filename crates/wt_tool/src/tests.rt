@@ -285,6 +285,11 @@ Filter<p0,a0@r0>(Filter<p1,a1@r0>(r0)) => Filter<p1,a1>(r0) | AttrsEq(a0,a1) Pre
 
 const DEDUP_RULE: &str = "Dedup(Dedup(r0)) => Dedup(r0) | -\n";
 
+const THREE_DEDUP_RULES: &str = "Dedup(Dedup(r0)) => Dedup(r0) | -
+Dedup(Dedup(Dedup(r0))) => Dedup(r0) | -
+Dedup(Dedup(Dedup(r0))) => Dedup(Dedup(r0)) | -
+";
+
 #[test]
 fn discovers_rules(rt: HostRuntime) -> Result<(), Fail> {
     let alloc = rt.alloc();
@@ -293,6 +298,7 @@ fn discovers_rules(rt: HostRuntime) -> Result<(), Fail> {
         ("discover src=2 dst=1 ops=D", "", DEDUP_RULE, 1),
         ("discover src=2 dst=1 ops=FD", FILTER_RULES, DEDUP_RULE, 5),
         ("discover src=2 dst=1 ops=DF", FILTER_RULES, DEDUP_RULE, 5),
+        ("discover src=3 dst=2 ops=D", "", THREE_DEDUP_RULES, 3),
         ("discover src=1 dst=0 ops=FD", "", "", 0),
     ] {
         let written = format!(in alloc; "wetune-rules 1 steps=8\n{filters}{dedups}end {count}\n")?;
@@ -312,8 +318,9 @@ fn refuses_words(rt: HostRuntime) -> Result<(), Fail> {
         "rewrite A S",
         "rewrite A S Q more",
         "check A",
-        "discover src=3 dst=1 ops=F",
-        "discover src=2 dst=2 ops=F",
+        "discover src=4 dst=1 ops=F",
+        "discover src=0 dst=1 ops=F",
+        "discover src=2 dst=4 ops=F",
         "discover src=2 dst=1 ops=P",
         "discover dst=1 src=2 ops=F",
     ] {

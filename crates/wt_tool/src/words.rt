@@ -30,12 +30,14 @@ pub(crate) enum UsageFault {
 fn source_size(word: &str) -> Option<u32>
     ensures is { result ≡ spec.source_size word.now }
     ensures low { IfSome result (λ n. 1 ≤ n) }
-    ensures high { IfSome result (λ n. n ≤ 2) }
+    ensures high { IfSome result (λ n. n ≤ 3) }
 {
     if word == "src=1" {
         Some(1)
     } else if word == "src=2" {
         Some(2)
+    } else if word == "src=3" {
+        Some(3)
     } else {
         None
     }
@@ -44,12 +46,16 @@ fn source_size(word: &str) -> Option<u32>
 /// The greatest size of destinations.
 fn destination_size(word: &str) -> Option<u32>
     ensures is { result ≡ spec.destination_size word.now }
-    ensures high { IfSome result (λ n. n ≤ 1) }
+    ensures high { IfSome result (λ n. n ≤ 3) }
 {
     if word == "dst=0" {
         Some(0)
     } else if word == "dst=1" {
         Some(1)
+    } else if word == "dst=2" {
+        Some(2)
+    } else if word == "dst=3" {
+        Some(3)
     } else {
         None
     }

@@ -29,10 +29,10 @@ names_kept (items.Star at ∷ others) = ap (λ names. [] ∷ names) (names_kept 
 names_kept (items.AllOf alias at ∷ others) = ap (λ names. [] ∷ names) (names_kept others)
 
 keeps_output_names : (query : QueryTree) → output_names (rewritten query) ≡ output_names query
-keeps_output_names (select distinct chosen (table name alias at alias_at) filter) = names_kept chosen
-keeps_output_names (select distinct chosen (derived query alias columns at alias_at) filter) = refl
-keeps_output_names (select distinct chosen (inner_join left right on on_at) filter) = refl
-keeps_output_names (select distinct chosen (left_join left right on on_at) filter) = refl
+keeps_output_names (select distinct chosen (table name alias at alias_at) where_part) = names_kept chosen
+keeps_output_names (select distinct chosen (derived query alias columns at alias_at) where_part) = refl
+keeps_output_names (select distinct chosen (inner_join left right on on_at) where_part) = refl
+keeps_output_names (select distinct chosen (left_join left right on on_at) where_part) = refl
 
 pub keeps_names : KeepsNames
 keeps_names tables query h = keeps_output_names query

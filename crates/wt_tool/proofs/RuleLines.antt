@@ -1,6 +1,6 @@
 -- The lines of the rules of pairs, one lot after another.
 use Rattle.std.proofs.Common.{◌≡◌, ◌∙◌, ℕ, zero, suc, ◌+◌, ◌-◌, ◌<◌, ◌≤◌, ◌^◌, min, List, [], ◌++◌, length, take, drop, map, refl, ap, sym, subst, arith, append_assoc, append-nil, length-drop, length-take, inl, inr}
-use Rattle.std.specs.Prelude.{◌↔◌, All, IsNone, is_some, Some, None, Ok, Err}
+use Rattle.std.specs.Prelude.{◌↔◌, All, IsNone, is_some, Some, Ok, Err}
 use Rattle.std.proofs.lemmas.Bool.{true≢false}
 use Rattle.std.proofs.lemmas.List.{length-map, take_all, take-append-drop}
 use Rattle.std.specs.Io.KnownBytes.{append_known}

@@ -1,10 +1,10 @@
 -- The pairs of bounds whose letters are those of filters and dedups alone.
-use Rattle.std.proofs.Common.{◌≡◌, ◌<◌, ℕ, zero, suc, ◌+◌, Bool, true, false, cond, List, [], ◌∷◌, ◌++◌, length, map, slice_index_or, refl, ap, sym, subst, arith}
-use Rattle.std.specs.Prelude.{filter, All, is_none, None, Some}
+use Rattle.std.proofs.Common.{◌≡◌, ℕ, zero, suc, ◌+◌, Bool, true, false, cond, List, [], ◌∷◌, map, refl, arith}
+use Rattle.std.specs.Prelude.{All, is_none, None, Some}
 use Rattle.std.specs.declared.option.Option.{Option}
 use Rattle.std.specs.List.{flat_map}
 use Rattle.wt_bag.specs.Bags.{Each}
-use Rattle.wt_bag.proofs.EachLaws.{each_append_right, each_flat_map, each_for, each_implies, each_map, each_of_map}
+use Rattle.wt_bag.proofs.EachLaws.{each_flat_map, each_for, each_implies, each_map}
 use Rattle.wt_discover.specs.Files.{HasOnlyFiltersAndDedups, HasTowers}
 use Rattle.wt_discover.proofs.TowerShapes.{IsTowerShape, each_letter, no_variant, templates_are_towers}
 use Rattle.wt_discover.proofs.TreesKeep.{trees_of_sizes_keep}

@@ -51,7 +51,7 @@ output_name (items.Column column output) = unwrap_or output column.name
 output_name _ = []
 
 abbrev pub output_names : QueryTree → List (List ℕ)
-output_names (select distinct chosen from filter) = map output_name chosen
+output_names (select distinct chosen from where_part) = map output_name chosen
 
 -- Which queries are rewritten: `SELECT T.c, .. FROM T`, T a table of the schema, each c one of its columns, all names bare.
 
@@ -78,5 +78,5 @@ item_rewritten (items.Column column output) =
 item_rewritten item = item
 
 abbrev pub rewritten : QueryTree → QueryTree
-rewritten (select distinct chosen (table name alias at alias_at) filter) = select distinct (map item_rewritten chosen) (table name (Some (codes "q0")) at alias_at) filter
+rewritten (select distinct chosen (table name alias at alias_at) where_part) = select distinct (map item_rewritten chosen) (table name (Some (codes "q0")) at alias_at) where_part
 rewritten query = query

@@ -1,8 +1,7 @@
-use Rattle.std.proofs.Common.{◌≡◌, ◌+◌, ◌-◌, ◌^◌, ◌≤◌, ◌<◌, ◌++◌, min, length, take, map, arith, rules, ap, sym, subst}
+use Rattle.std.proofs.Common.{◌≡◌, ◌+◌, ◌-◌, ◌^◌, min, map, rules}
 use Rattle.std.specs.Io.KnownBytes.{append_known}
 use Rattle.std.proofs.lemmas.Result.{err_from_is_err_and}
-use Rattle.wt_discover.specs.Files.{AreCounted, HasOnlyFiltersAndDedups}
-use Rattle.wt_pair.specs.Candidates.{pairs_of}
+use Rattle.wt_discover.specs.Files.{AreCounted}
 use Rattle.wt_pair.specs.Lots.{IsNextLot}
 use Rattle.wt_symbol.specs.Sides.{pair_of}
 use Rattle.wt_tool.proofs.Putting.{rose_since}

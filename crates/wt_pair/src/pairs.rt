@@ -124,6 +124,13 @@ mod tests {
         Ok(())
     }
 
+    // The interpreter of `rt try` takes minutes here.
+    #[test]
+    fn many_pairs_are_counted(rt: HostRuntime) -> Result<(), Fail> {
+        assert_eq!(rt; counted(rt.alloc(), 3, 1, ALL)?, (49353, 13));
+        Ok(())
+    }
+
     #[test]
     fn destinations_stand_in_order(rt: HostRuntime) -> Result<(), Fail> {
         let alloc = rt.alloc();

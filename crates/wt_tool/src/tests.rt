@@ -162,6 +162,11 @@ fn refuses_statements(rt: HostRuntime) -> Result<(), Fail> {
             b"-- refused NumberRange at 30\n",
         ),
         (b"SELECT t.a, FROM t;", b"-- refused Syntax at 12\n"),
+        (b"SELECT t.a FROM", b"-- refused Syntax at 15\n"),
+        (
+            b"SELECT t.a FROM t WHERE NOT NOT NOT NOT NOT NOT NOT NOT NOT NOT NOT NOT NOT NOT NOT NOT NOT NOT NOT NOT NOT NOT NOT NOT NOT NOT NOT NOT NOT NOT NOT NOT NOT t.a = 1",
+            b"-- refused TooDeep at 152\n",
+        ),
         (
             b"SELECT t.a FROM t WHERE (((((((((((((((((((((((((((((((((t.a = 1)))))))))))))))))))))))))))))))))",
             b"-- refused TooDeep at 56\n",
@@ -192,6 +197,15 @@ fn refuses_files(rt: HostRuntime) -> Result<(), Fail> {
             queries: b"'",
             status: 2,
             written: b"fault Q offset 0 OpenQuote\n",
+            ..PLAIN
+        },
+    )?;
+    check(
+        &rt,
+        &Case {
+            queries: b"\xff",
+            status: 2,
+            written: b"fault Q offset 0 NotText\n",
             ..PLAIN
         },
     )?;

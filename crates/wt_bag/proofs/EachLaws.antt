@@ -1,6 +1,6 @@
 -- What holds of each element of a list.
-use Rattle.std.proofs.Common.{Bool, true, false, not, cond, List, [], ◌∷◌, ◌++◌, map, ◌≡◌, refl, sym, ap, ◌∙◌}
-use Rattle.std.specs.Prelude.{filter, flat_map}
+use Rattle.std.proofs.Common.{ℕ, zero, suc, Bool, true, false, not, cond, List, [], ◌∷◌, ◌++◌, map, take, drop, ◌≡◌, refl, sym, ap, ◌∙◌, arith}
+use Rattle.std.specs.Prelude.{All, filter, flat_map}
 use Rattle.std.proofs.lemmas.Bool.{false≢true}
 use Rattle.wt_bag.specs.Bags.{Each, distinct}
 
@@ -85,3 +85,20 @@ each_distinct P same (x ∷ xs) h = (h.0, each_filter P (λ y. not (same x y)) (
 pub filter_each : {X : Type 0} (p q : X → Bool) (xs : List X) → Each (λ x. p x ≡ q x) xs → filter p xs ≡ filter q xs
 filter_each p q [] h = refl
 filter_each p q (x ∷ xs) h = ap (λ b. cond b (x ∷ filter p xs) (filter p xs)) h.0 ∙ ap (λ l. cond (q x) (x ∷ l) l) (filter_each p q xs h.1)
+
+-- of each of the first elements, and of each behind them
+pub each_take : {X : Type 0} (P : X → Type 0) (n : ℕ) (xs : List X) → Each P xs → Each P (take n xs)
+each_take P zero xs h = tt
+each_take P (suc n) [] h = tt
+each_take P (suc n) (x ∷ xs) h = (h.0, each_take P n xs h.1)
+
+pub each_drop : {X : Type 0} (P : X → Type 0) (n : ℕ) (xs : List X) → Each P xs → Each P (drop n xs)
+each_drop P zero xs h = h
+each_drop P (suc n) [] h = tt
+each_drop P (suc n) (x ∷ xs) h = each_drop P n xs h.1
+
+-- what holds of each holds at each place
+pub all_from_each : {X : Type 0} (P : X → Type 0) (xs : List X) → Each P xs → All P xs
+all_from_each P [] h k d within = absurd (omega arith)
+all_from_each P (x ∷ xs) h zero d within = h.0
+all_from_each P (x ∷ xs) h (suc k) d within = all_from_each P xs h.1 k d (omega arith)

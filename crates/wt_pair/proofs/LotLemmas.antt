@@ -4,7 +4,7 @@ use Rattle.std.proofs.lemmas.List.{append-nil, drop-drop, drop_at, take_at, take
 use Rattle.std.specs.Prelude.{All, filter, is_none, if◌then◌else◌}
 use Rattle.std.proofs.lemmas.List.{length-map}
 use Rattle.wt_bag.specs.Bags.{Each}
-use Rattle.wt_bag.proofs.EachLaws.{each_for, each_flat_map, each_implies, each_of_map}
+use Rattle.wt_bag.proofs.EachLaws.{all_from_each, each_drop, each_flat_map, each_for, each_implies, each_of_map, each_take}
 use Rattle.wt_template.specs.Shapes.{templates}
 use Rattle.wt_symbol.specs.declared.fault.PairFault.{PairFault}
 use Rattle.wt_symbol.specs.Lawful.{IsLawful, fault_of}
@@ -74,21 +74,6 @@ each_lawful b =
     (each_for (anchorings (leaf_count t) (list_count t)) (λ anchors.
     each_implies (λ p. is_lawful p ≡ true) IsLawful (pairs_of_anchoring b.ops.0 b.dst t anchors) is_none_from
     (filter_passes is_lawful (map (λ d. record { source = source_of t; dest = d; anchors = anchors }) (destinations b.ops.0 b.dst t)))))))
-
-each_take : {X : Type 0} (P : X → Type 0) (n : ℕ) (xs : List X) → Each P xs → Each P (take n xs)
-each_take P zero xs h = tt
-each_take P (suc n) [] h = tt
-each_take P (suc n) (x ∷ xs) h = (h.0, each_take P n xs h.1)
-
-each_drop : {X : Type 0} (P : X → Type 0) (n : ℕ) (xs : List X) → Each P xs → Each P (drop n xs)
-each_drop P zero xs h = h
-each_drop P (suc n) [] h = tt
-each_drop P (suc n) (x ∷ xs) h = each_drop P n xs h.1
-
-all_from_each : {X : Type 0} (P : X → Type 0) (xs : List X) → Each P xs → All P xs
-all_from_each P [] h k d within = absurd (omega arith)
-all_from_each P (x ∷ xs) h zero d within = h.0
-all_from_each P (x ∷ xs) h (suc k) d within = all_from_each P xs h.1 k d (omega arith)
 
 pub lot_lawful : (b : Bounds) (f : ℕ) (pairs : List Pair) → map pair_of pairs ≡ take 4096 (drop f (pairs_of b)) → All (λ p. IsLawful (pair_of p)) pairs
 lot_lawful b f pairs is =

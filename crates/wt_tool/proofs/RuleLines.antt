@@ -6,7 +6,7 @@ use Rattle.std.proofs.lemmas.List.{length-map, take_all, take-append-drop}
 use Rattle.std.specs.Io.KnownBytes.{append_known}
 use Rattle.std.specs.declared.option.Option.{Option}
 use Rattle.wt_bag.specs.Bags.{Each}
-use Rattle.wt_bag.proofs.EachLaws.{each_append_left, each_append_right, each_implies, each_of_map}
+use Rattle.wt_bag.proofs.EachLaws.{all_from_each, each_append_left, each_append_right, each_implies, each_of_map}
 use Rattle.wt_discover.specs.Files.{AreAllLines, AreCounted, HasOnlyFiltersAndDedups, HasTowers}
 use Rattle.wt_discover.proofs.Counted.{all_lines_append}
 use Rattle.wt_io.proofs.Written.{append_known-twice}
@@ -24,7 +24,7 @@ use Rattle.wt_tool.specs.declared.stop.Stop.TheVariants.{Memory}
 use Rattle.wt_tool.specs.Discovering.{Discovers, IsWhole, PutsRules}
 use Rattle.wt_tool.specs.Outcomes.{AppendsPrefix, Outcome, Stops}
 use Rattle.wt_tool.proofs.Putting.{append_known-nil, stops_after}
-use Rattle.wt_tool.proofs.TowerPairs.{IsTowerPair, all_from_each, pairs_are_towers}
+use Rattle.wt_tool.proofs.TowerPairs.{IsTowerPair, pairs_are_towers}
 
 -- the lines of these pairs were put, and their number was counted
 pub record PutSoFar (steps depth : ℕ) (pairs : List PairTree) (old new : Option (List ℕ)) (count : ℕ) : Type 0 where

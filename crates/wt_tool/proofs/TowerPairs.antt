@@ -1,6 +1,6 @@
 -- The pairs of bounds whose letters are those of filters and dedups alone.
-use Rattle.std.proofs.Common.{◌≡◌, ℕ, zero, suc, ◌+◌, Bool, true, false, cond, List, [], ◌∷◌, map, refl, arith}
-use Rattle.std.specs.Prelude.{All, is_none, None, Some}
+use Rattle.std.proofs.Common.{◌≡◌, ℕ, ◌+◌, Bool, true, false, cond, List, [], ◌∷◌, map, refl}
+use Rattle.std.specs.Prelude.{is_none, None, Some}
 use Rattle.std.specs.declared.option.Option.{Option}
 use Rattle.std.specs.List.{flat_map}
 use Rattle.wt_bag.specs.Bags.{Each}
@@ -84,9 +84,3 @@ pairs_are_towers b only = each_flat_map IsTowerPair (pairs_of_template b.ops.0 b
     (each_for (anchorings (leaf_count t) (list_count t)) (λ anchors. passing (source_of t) anchors (destinations b.ops.0 b.dst t) (numbered_tower t 0 0 0 h)
     (destinations_are_towers b.ops.0 b.dst (leaf_count t) (list_count t) (pred_count t) only))))
     (templates_are_towers b.ops.0 b.src only))
-
--- what holds of each holds at each place
-pub all_from_each : {X : Type 0} (P : X → Type 0) (xs : List X) → Each P xs → All P xs
-all_from_each P [] h k d l = absurd (omega arith)
-all_from_each P (x ∷ xs) h zero d l = h.0
-all_from_each P (x ∷ xs) h (suc k) d l = all_from_each P xs h.1 k d (omega arith)

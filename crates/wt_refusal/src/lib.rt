@@ -1,0 +1,20 @@
+//! Where a statement's refusal stands among the sentences of the grammar. A law is the contract of a function that does
+//! nothing.
+#![tactic(auto)]
+
+ghost use Rattle.std.specs.Prelude.{◌≡◌, ℕ, List, Err};
+ghost use Rattle.wt_grammar.specs.Lexemes.{Tokens};
+ghost use Rattle.wt_grammar.specs.Reading.{Refusal, statement};
+ghost use Rattle.wt_refusal.specs.Refused.{BeginsSome, Ends, Parts};
+
+/// The tokens before a refusal begin a sentence of the grammar.
+pub fn what_stands_before_a_refusal_begins_a_sentence()
+    ensures { (end : ℕ) (bytes : List ℕ) (ts : Tokens) (why : Refusal) (at : ℕ) → statement end bytes ts ≡ Err (why, at)
+        → Parts end bytes (λ before behind. BeginsSome end bytes before) ts at }
+{}
+
+/// With the token of a refusal no sentence of the grammar goes on: the tokens before it and it begin none.
+pub fn no_sentence_goes_on_with_a_refusal()
+    ensures { (end : ℕ) (bytes : List ℕ) (ts : Tokens) (why : Refusal) (at : ℕ) → statement end bytes ts ≡ Err (why, at)
+        → Parts end bytes (Ends end bytes why) ts at }
+{}

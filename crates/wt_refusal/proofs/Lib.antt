@@ -1,1 +1,2 @@
 mod Local
+mod LocalParts

@@ -1,2 +1,3 @@
 mod Local
 mod LocalParts
+mod LocalTuples

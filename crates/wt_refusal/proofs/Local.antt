@@ -105,6 +105,16 @@ module _ (end : ℕ) (bytes : List ℕ) where
       by (Ok x) (l, s) = (omega (arith, h, l), s)
       by (Err e) (k, p, r) = (k, p, less_refuses d m part ts e.0 k h r)
 
+  -- of a value the depth is known
+  pub deep_at : {A : Type 0} (d m : ℕ) (x : A) (part : Tokens → Read A) (ts : Tokens) → part ts ≡ Ok (x, m) → LocalAt d part ts → LocalAt m part ts
+  unfolding LocalAt
+  deep_at d m x part ts e local = let (l, s) = subst (Gives d part ts) e local in subst (Gives m part ts) (sym e) (omega arith, s)
+
+  -- what is read of tokens is read of all that begin as those that it took and the one behind them
+  pub same_value : {A : Type 0} (d m : ℕ) (x : A) (part : Tokens → Read A) (ts us : Tokens) → LocalAt d part ts → part ts ≡ Ok (x, m) → Agree (suc m) us ts → part us ≡ Ok (x, m)
+  unfolding LocalAt
+  same_value d m x part ts us local e a = let (l, s) = subst (Gives d part ts) e local in s us a
+
   -- a reading that is another one on tokens that begin alike
   pub as_at : {A : Type 0} (d : ℕ) (part q : Tokens → Read A) (ts : Tokens) → ((us : Tokens) → Agree (suc d) us ts → part us ≡ q us) → LocalAt d q ts → LocalAt d part ts
   unfolding LocalAt

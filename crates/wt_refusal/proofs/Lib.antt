@@ -1,3 +1,4 @@
 mod Local
 mod LocalParts
 mod LocalTuples
+mod LocalConditions

@@ -1,5 +1,5 @@
 -- Conditions are read by the tokens that they take and the one behind them.
-use Rattle.std.proofs.Common.{◌≡◌, ℕ, suc, zero, ◌+◌, ◌≤◌, ◌<◌, ◌⊎◌, inl, inr, Bool, true, false, List, [], ◌∷◌, ◌++◌, length, drop, take, refl, ap, sym, ◌∙◌, arith, Ok, Err, is_err, Option, Some, None, subst}
+use Rattle.std.proofs.Common.{◌≡◌, ℕ, suc, zero, ◌+◌, ◌≤◌, ◌<◌, ◌⊎◌, inl, inr, Bool, true, false, List, [], ◌∷◌, ◌++◌, length, drop, take, refl, ap, sym, ◌∙◌, arith, Ok, Err, is_err, Option, Some, None, subst, drop-drop}
 use Rattle.std.specs.Prelude.{if◌then◌else◌, ◌&&◌}
 use Rattle.wt_ast.specs.declared.tree.ColumnName.{ColumnName}
 use Rattle.wt_ast.specs.declared.tree.CmpWord.{CmpWord}
@@ -14,10 +14,15 @@ use Rattle.wt_grammar.specs.Refusals.{syntax, no_negated}
 use Rattle.wt_grammar.specs.Reading as read
 use Rattle.wt_grammar.specs.Reading.{Read, Refusal, Nest, refused, plus, followed, list, within, expect, cmp_of, between_of, of_column, opens_tuple}
 use Rattle.wt_sentence.specs.Grammar.{Column}
+use Rattle.wt_sentence.proofs.Follows.{in_is}
 use Rattle.wt_refusal.specs.Refused.{looked}
 use Rattle.wt_refusal.proofs.Local.{Agree, agree_front, kind_front, some_looked, LocalAt, Local, value_at, refusal_at, barred_at, less_at, as_at, seen_at, test_at, behind_at, then_at, last_at, err_followed}
 use Rattle.wt_refusal.proofs.LocalParts.{list_at, run_local, expect_local, closed_at, by_place, column_local, operand_local, literal_local}
 use Rattle.wt_refusal.proofs.LocalTuples.{Closes}
+
+pub both : (a b : Bool) → (a && b) ≡ true → (a ≡ true) × (b ≡ true)
+both true b h = (refl, h)
+both false b h = absurd cc
 
 module _ (end : ℕ) (bytes : List ℕ) where
   -- what stands one level deeper is read so; or there is no level left, and it is refused at its first token
@@ -68,9 +73,9 @@ module _ (end : ℕ) (bytes : List ℕ) where
       (λ s. less_at end bytes 0 1 _ ts (omega arith) (behind_at end bytes 1 0 (null_word (is_not_null at c)) ts (null_word_local (is_not_null at c) (drop 1 ts))))
       (λ s. null_word_local (is_null at c) ts)
 
-  of_column_at : {A : Type 0} (d : ℕ) (a : Scalar) (f : ColumnName → Tokens → Read A) (ts : Tokens) → d ≤ 0 → ((c : ColumnName) → LocalAt end bytes d (f c) ts)
+  of_column_at : {A : Type 0} (d : ℕ) (a : Scalar) (f : ColumnName → Tokens → Read A) (ts : Tokens) → d ≤ 0 → ((c : ColumnName) → a ≡ scalar.Column c → LocalAt end bytes d (f c) ts)
       → LocalAt end bytes d (λ us. of_column end a (λ c. f c us) us) ts
-  of_column_at d (scalar.Column c) f ts h local = local c
+  of_column_at d (scalar.Column c) f ts h local = local c refl
   of_column_at {A} d (scalar.Literal v at) f ts h local = refusal_at end bytes A d 0 (λ us. refused fault.Syntax) ts (omega (arith, h))
 
   module _ (ns : Nest) (below : LocalBelow ns) where
@@ -156,3 +161,73 @@ module _ (end : ℕ) (bytes : List ℕ) where
         test_at end bytes is_open 0 0 (no_query_but_values at c not_at word) (read.no end fault.Syntax) ts (omega arith)
         (λ s. not_values_at ns.room refl at c not_at word ts (ap (λ b. b && is_select (kind (drop 1 ts))) (sym s) ∙ none))
         (λ s. refusal_at end bytes CondTree 0 0 (λ us. refused fault.Syntax) ts (omega arith))
+
+    -- behind NOT, unless it is IN and a query
+    after_not_local : (at : ℕ) (a : Scalar) (not_at : ℕ) (ts : Tokens) → ((c : ColumnName) → a ≡ scalar.Column c → (is_in (kind ts) && (is_open (kind (drop 1 ts)) && is_select (kind (drop 2 ts)))) ≡ false)
+        → LocalAt end bytes 0 (read.after_not end bytes ns at a not_at) ts
+    unfolding read.after_not
+    after_not_local at a not_at ts none =
+        test_at end bytes is_between 0 0 (λ us. plus 1 (followed (drop 1 us) (read.between end bytes at a (place end us) (drop 1 us)) (λ x rest. Ok (negated at x, 0))))
+        (λ us. if is_in (kind us) then of_column end a (λ c. plus 1 (read.not_in_part end bytes ns at c not_at (place end us) (drop 1 us))) us else read.no end (no_negated (kind us)) us) ts (omega arith)
+        (λ s. by_place end bytes 0 (λ p us. plus 1 (followed (drop 1 us) (read.between end bytes at a p (drop 1 us)) (λ x rest. Ok (negated at x, 0)))) ts
+        (less_at end bytes 0 1 _ ts (omega arith) (behind_at end bytes 1 0 (λ l. followed l (read.between end bytes at a (place end ts) l) (λ x rest. Ok (negated at x, 0))) ts
+        (last_at end bytes 0 (read.between end bytes at a (place end ts)) (λ x. negated at x) (drop 1 ts) (between_local at a (place end ts) (drop 1 ts))))))
+        (λ s. test_at end bytes is_in 0 0 (λ us. of_column end a (λ c. plus 1 (read.not_in_part end bytes ns at c not_at (place end us) (drop 1 us))) us) (λ us. read.no end (no_negated (kind us)) us) ts (omega arith)
+        (λ s. of_column_at 0 a (λ c us. plus 1 (read.not_in_part end bytes ns at c not_at (place end us) (drop 1 us))) ts (omega arith) (λ c e.
+        by_place end bytes 0 (λ p us. plus 1 (read.not_in_part end bytes ns at c not_at p (drop 1 us))) ts
+        (less_at end bytes 0 1 _ ts (omega arith) (behind_at end bytes 1 0 (read.not_in_part end bytes ns at c not_at (place end ts)) ts
+        (not_in_local at c not_at (place end ts) (drop 1 ts) (values_follow c e s))))))
+        (λ s. refusal_at end bytes CondTree 0 0 (λ us. refused (no_negated (kind us))) ts (omega (arith, some_looked (refused (no_negated (kind ts)))))))
+      where
+        values_follow : (c : ColumnName) → a ≡ scalar.Column c → is_in (kind ts) ≡ true → (is_open (kind (drop 1 ts)) && is_select (kind (drop 1 (drop 1 ts)))) ≡ false
+        values_follow c e s =
+            ap (λ l. is_open (kind (drop 1 ts)) && is_select (kind l)) (drop-drop 1 1 ts)
+            ∙ ap (λ b. b && (is_open (kind (drop 1 ts)) && is_select (kind (drop 2 ts)))) (sym s) ∙ none c e
+
+    -- NOT IN and a query
+    not_query : Tokens → Bool
+    not_query us = is_in (kind (drop 1 us)) && (is_open (kind (drop 2 us)) && is_select (kind (drop 3 us)))
+
+    query_refused : (at : ℕ) (c : ColumnName) (us : Tokens) → not_query us ≡ true → plus 1 (read.after_not end bytes ns at (scalar.Column c) (place end us) (drop 1 us)) ≡ Err (refused fault.NotInSubquery, place end us)
+    unfolding read.after_not read.not_in_part not_query
+    query_refused at c us h =
+        let (is, h2) = both (is_in (kind (drop 1 us))) _ h in
+        let (opens, selects) = both (is_open (kind (drop 2 us))) _ h2 in
+        let no_between : is_between (kind (drop 1 us)) ≡ false = ap is_between (in_is (kind (drop 1 us)) is) in
+        let opens2 : is_open (kind (drop 1 (drop 1 us))) ≡ true = ap (λ l. is_open (kind l)) (drop-drop 1 1 us) ∙ opens in
+        let selects2 : is_select (kind (drop 1 (drop 1 (drop 1 us)))) ≡ true = ap (λ l. is_select (kind (drop 1 l))) (drop-drop 1 1 us) ∙ ap (λ l. is_select (kind l)) (drop-drop 1 2 us) ∙ selects in
+        rw (no_between, is, opens2, selects2) refl
+
+    not_local : (at : ℕ) (a : Scalar) → Local end bytes 0 (λ us. plus 1 (read.after_not end bytes ns at a (place end us) (drop 1 us)))
+    unfolding not_query
+    not_local at a ts = by a (not_query ts) refl
+      where
+        plain : (a : Scalar) → ((c : ColumnName) → a ≡ scalar.Column c → not_query ts ≡ false) → LocalAt end bytes 0 (λ us. plus 1 (read.after_not end bytes ns at a (place end us) (drop 1 us))) ts
+        plain a none =
+            by_place end bytes 0 (λ p us. plus 1 (read.after_not end bytes ns at a p (drop 1 us))) ts
+            (less_at end bytes 0 1 _ ts (omega arith) (behind_at end bytes 1 0 (read.after_not end bytes ns at a (place end ts)) ts
+            (after_not_local at a (place end ts) (drop 1 ts) (λ c e. (λ i. is_in (kind (drop 1 ts)) && (is_open (kind (drop-drop 1 1 ts i)) && is_select (kind (drop-drop 2 1 ts i)))) ∙ none c e))))
+
+        same : (us : Tokens) → Agree 4 us ts → not_query us ≡ not_query ts
+        same us h = λ i. is_in (agree_front kind kind_front 1 3 us ts (omega arith) h i) && (is_open (agree_front kind kind_front 2 3 us ts (omega arith) h i) && is_select (agree_front kind kind_front 3 3 us ts (omega arith) h i))
+
+        by : (a : Scalar) (b : Bool) → not_query ts ≡ b → LocalAt end bytes 0 (λ us. plus 1 (read.after_not end bytes ns at a (place end us) (drop 1 us))) ts
+        by (scalar.Literal v p) b e = plain (scalar.Literal v p) (λ c f. absurd cc)
+        by (scalar.Column c) false e = plain (scalar.Column c) (λ d f. e)
+        by (scalar.Column c) true e =
+            less_at end bytes 0 3 _ ts (omega arith) (as_at end bytes 3 (λ us. plus 1 (read.after_not end bytes ns at (scalar.Column c) (place end us) (drop 1 us))) (λ us. Err (refused fault.NotInSubquery, place end us)) ts
+            (λ us h. query_refused at c us (same us h ∙ e)) (refusal_at end bytes CondTree 3 0 (λ us. refused fault.NotInSubquery) ts (omega arith)))
+
+    pub after_operand_local : (at : ℕ) (a : Scalar) → Local end bytes 0 (read.after_operand end bytes ns at a)
+    unfolding read.after_operand
+    after_operand_local at a ts =
+        test_at end bytes is_between 0 0 (λ us. plus 1 (read.between end bytes at a (place end us) (drop 1 us))) _ ts (omega arith) (λ s. less_at end bytes 0 1 _ ts (omega arith) (between_at at a ts))
+        (λ s. test_at end bytes is_not 0 0 (λ us. plus 1 (read.after_not end bytes ns at a (place end us) (drop 1 us))) _ ts (omega arith) (λ s. not_local at a ts)
+        (λ s. test_at end bytes is_is 0 0 (λ us. of_column end a (λ c. plus 1 (read.is_part end at c (drop 1 us))) us) _ ts (omega arith)
+        (λ s. of_column_at 0 a (λ c us. plus 1 (read.is_part end at c (drop 1 us))) ts (omega arith)
+        (λ c e. less_at end bytes 0 1 _ ts (omega arith) (behind_at end bytes 1 0 (read.is_part end at c) ts (is_part_local at c (drop 1 ts)))))
+        (λ s. test_at end bytes is_in 0 0 (λ us. of_column end a (λ c. plus 1 (read.in_part end bytes ns at c (place end us) (drop 1 us))) us) _ ts (omega arith)
+        (λ s. of_column_at 0 a (λ c us. plus 1 (read.in_part end bytes ns at c (place end us) (drop 1 us))) ts (omega arith)
+        (λ c e. by_place end bytes 0 (λ p us. plus 1 (read.in_part end bytes ns at c p (drop 1 us))) ts
+        (less_at end bytes 0 1 _ ts (omega arith) (behind_at end bytes 1 0 (read.in_part end bytes ns at c (place end ts)) ts (in_part_local at c (place end ts) (drop 1 ts))))))
+        (λ s. seen_at end bytes kind kind_front 0 0 (λ k us. read.compared_by end bytes (cmp_of k) at a us) ts (omega arith) (compared_local (cmp_of (kind ts)) at a ts)))))

@@ -2,3 +2,4 @@ mod Local
 mod LocalParts
 mod LocalTuples
 mod LocalConditions
+mod LocalBasic

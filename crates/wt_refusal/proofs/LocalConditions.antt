@@ -91,7 +91,7 @@ module _ (end : ℕ) (bytes : List ℕ) where
     unfolding read.listed
     none_listed part ts room = rw room refl
 
-    subquery_at : (at : ℕ) (cs : List ColumnName) (word : ℕ) (ts : Tokens) → ns.room ≡ true → LocalAt end bytes 1 (read.subquery end bytes ns at cs word) ts
+    pub subquery_at : (at : ℕ) (cs : List ColumnName) (word : ℕ) (ts : Tokens) → ns.room ≡ true → LocalAt end bytes 1 (read.subquery end bytes ns at cs word) ts
     unfolding read.subquery
     subquery_at at cs word ts room = last_at end bytes 1 ns.queries (λ q. in_query at cs q word) ts (below.queries room ts)
 

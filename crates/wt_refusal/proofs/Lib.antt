@@ -3,3 +3,4 @@ mod LocalParts
 mod LocalTuples
 mod LocalConditions
 mod LocalBasic
+mod LocalQueries

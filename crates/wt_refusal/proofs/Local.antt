@@ -110,6 +110,11 @@ module _ (end : ℕ) (bytes : List ℕ) where
   unfolding LocalAt
   deep_at d m x part ts e local = let (l, s) = subst (Gives d part ts) e local in subst (Gives m part ts) (sym e) (omega arith, s)
 
+  -- a value takes so many tokens or more
+  pub takes_at : {A : Type 0} (d m : ℕ) (x : A) (part : Tokens → Read A) (ts : Tokens) → part ts ≡ Ok (x, m) → LocalAt d part ts → d ≤ m
+  unfolding LocalAt
+  takes_at d m x part ts e local = (subst (Gives d part ts) e local).0
+
   -- what is read of tokens is read of all that begin as those that it took and the one behind them
   pub same_value : {A : Type 0} (d m : ℕ) (x : A) (part : Tokens → Read A) (ts us : Tokens) → LocalAt d part ts → part ts ≡ Ok (x, m) → Agree (suc m) us ts → part us ≡ Ok (x, m)
   unfolding LocalAt

@@ -55,6 +55,9 @@ run_one sep whole Part l (x, p) = (x, (x, [], (l, [], sym (append-nil l), p, ref
 pub err_parts : {A : Type 0} (f why : Refusal) (p at : ℕ) → ◌≡◌ {A = Read A} (Err (f, p)) (Err (why, at)) → at ≡ p
 err_parts {A} f why p at h = let e : ◌≡◌ {A = Refusal × ℕ} (f, p) (why, at) = cc in sym (ap (λ p. p.1) e)
 
+pub ok_no_err : {A : Type 0} {x : A × ℕ} {e : Refusal × ℕ} → ◌≡◌ {A = Read A} (Ok x) (Err e) → ⊥
+ok_no_err h = cc
+
 pub plus_err : {A : Type 0} (m : ℕ) (r : Read A) (e : Refusal × ℕ) → plus m r ≡ Err e → r ≡ Err e
 plus_err m (Ok x) e h = absurd cc
 plus_err m (Err z) e h = h
@@ -125,12 +128,9 @@ module _ (end : ℕ) where
   unfolding expect
   begins_expect wanted k other ts why at is h =
       elim (chosen (wanted (kind ts)) _ _ _ h) [
-        | inl p ↦ absurd (no_refusal p.1)
+        | inl p ↦ absurd (ok_no_err p.1)
         | inr p ↦ begins_at_front (Is wanted) ts (refused (other (kind ts))) why at (a_token wanted k is) p.1
       ]
-    where
-      no_refusal : ◌≡◌ {A = Read (Unit {0})} (Ok (tt, 1)) (Err (why, at)) → ⊥
-      no_refusal h = cc
 
   -- and a reading behind it
   pub begins_expected : {B : Type 0} (wanted : Kind → Bool) (k : Kind) (other : Kind → QueryFault) (Q : Tokens → Type 0) (ts : Tokens) (f : Tokens → Read B) (why : Refusal) (at : ℕ)

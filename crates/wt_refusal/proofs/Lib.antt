@@ -1,3 +1,4 @@
 pub mod Levels
 pub mod Begins
 pub mod BeginsParts
+pub mod BeginsConditions

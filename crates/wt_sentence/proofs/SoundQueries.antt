@@ -1,6 +1,6 @@
 -- What is read is a sentence: conditions, FROM and queries.
 use Rattle.std.proofs.Common.{◌≡◌, ℕ, suc, zero, ◌+◌, ◌-◌, ◌≤◌, length-drop, ◌⊎◌, inl, inr, Bool, true, false, List, [], ◌∷◌, length, drop, refl, ap, sym, ◌∙◌, arith, Ok, Err, Option, Some, None, subst}
-use Rattle.std.specs.Prelude.{◌||◌, if◌then◌else◌}
+use Rattle.std.specs.Prelude.{if◌then◌else◌}
 use Rattle.wt_value.specs.declared.value.Value.{Value}
 use Rattle.wt_ast.specs.declared.tree.ColumnName.{ColumnName}
 use Rattle.wt_ast.specs.declared.tree.CmpWord.{CmpWord}
@@ -15,6 +15,7 @@ use Rattle.wt_grammar.specs.Reading as read
 use Rattle.wt_grammar.specs.Reading.{Read, Refusal, Nest, plus, followed, expect, cmp_of, between_of, join_of, name_only, place_or, opens_tuple, no_query_end}
 use Rattle.wt_sentence.specs.Grammar.{Seq, One, Is, IsAt, Behind, Listed, Parens, Run, Column, AnyLiteral, Operand, Named, Alias, IsItem, Deeper}
 use Rattle.wt_sentence.specs.Grammar as spec
+use Rattle.wt_sentence.proofs.Follows.{left_begins}
 use Rattle.wt_sentence.proofs.Inversions.{chosen, held, ok_parts, plus_ok, followed_ok, last_ok}
 use Rattle.wt_sentence.proofs.Took.{Took, Sound, There, took_none, took_then, took_as, took_one, took_is, took_begin, some_seq, some_one, expected, list_sound, within_at, run_sound}
 use Rattle.wt_sentence.proofs.SoundParts.{column_sound, operand_sound, literal_sound, any_name_sound, name_sound, alias_sound, item_sound, named}
@@ -346,7 +347,7 @@ module _ (end : ℕ) (bytes : List ℕ) where
                 (took_then (Is is_inner) (Is is_join) ts 1 j n (took_is is_inner ts refl q.0) m s)
             | inr q ↦
                 let (j, e, s) = plus_ok 1 _ k n q.1 in
-                let left = is_left_word p.0 q.0 in
+                let left = left_begins (kind ts) begins p.0 q.0 in
                 elim (chosen (is_outer (kind (drop 1 ts))) _ _ _ e) [
                   | inl r ↦
                       let (i, e', s') = plus_ok 1 _ k j r.1 in
@@ -367,14 +368,6 @@ module _ (end : ℕ) (bytes : List ℕ) where
             let (u, e', f) = last_ok l (expect end is_join syntax l) (λ _. k') k j e in
             let (is, one) = expected is_join syntax end l u j e' in
             (took_as (Is is_join) (Is is_join) l 1 j (λ a z. z) (sym one) (took_is is_join l refl is), f)
-
-        by : (a b c : Bool) → (a || b || c) ≡ true → a ≡ false → b ≡ false → c ≡ true
-        by false false c h p q = h
-        by true b c h p q = absurd cc
-        by false true c h p q = absurd cc
-
-        is_left_word : is_join (kind ts) ≡ false → is_inner (kind ts) ≡ false → is_left (kind ts) ≡ true
-        is_left_word p q = by (is_join (kind ts)) (is_inner (kind ts)) (is_left (kind ts)) begins p q
 
     pub join_sound : (a : FromTree) (ts : Tokens) (f : FromTree) (n : ℕ) → begins_join (kind ts) ≡ true → read.join end bytes ns a ts ≡ Ok (f, n) → Took (spec.Join end bytes d a f) ts n
     unfolding read.join

@@ -68,7 +68,7 @@ module _ (end : ℕ) (bytes : List ℕ) where
         | inl p ↦ elim (chosen (is_dot (kind (drop 1 ts))) _ _ _ p.1) [
           | inl q ↦
               let refused_name : name end bytes (drop 2 ts) ≡ Err (why, at) =
-                  last_err (drop 2 ts) (name end bytes (drop 2 ts)) (λ n. record { table = Some (name_at bytes ts); name = n; at = place end ts }) (why, at) (plus_err 2 _ (why, at) q.1) in
+              last_err (drop 2 ts) (name end bytes (drop 2 ts)) (λ n. record { table = Some (name_at bytes ts); name = n; at = place end ts }) (why, at) (plus_err 2 _ (why, at) q.1) in
               let behind : Begins end (Any (spec.Name end bytes)) (drop 1 (drop 1 ts)) at = subst (λ l. Begins end (Any (spec.Name end bytes)) l at) (two ts) (name_begins (drop 2 ts) why at refused_name) in
               begins_as end (Seq (spec.NameAt end bytes (name_at bytes ts) (place end ts)) (Seq (Is is_dot) (Any (spec.Name end bytes)))) (Any (Column end bytes)) ts at
               (λ l (a, b, e, z, (c, d, f, o, (n, y))). (record { table = Some (name_at bytes ts); name = n; at = place end ts }, inr (name_at bytes ts, n, place end ts, (a, b, e, z, (c, d, f, o, y)), refl)))

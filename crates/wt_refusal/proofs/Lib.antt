@@ -1,6 +1,12 @@
-mod Local
-mod LocalParts
-mod LocalTuples
-mod LocalConditions
-mod LocalBasic
-mod LocalQueries
+pub mod Local
+pub mod LocalParts
+pub mod LocalTuples
+pub mod LocalConditions
+pub mod LocalBasic
+pub mod LocalQueries
+pub mod Levels
+pub mod Begins
+pub mod BeginsParts
+pub mod BeginsConditions
+pub mod BeginsQueries
+pub mod BeginsStatements

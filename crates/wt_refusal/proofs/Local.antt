@@ -1,8 +1,8 @@
 -- A reading depends on the tokens that it took and the one behind them; a refusal, on those before its place and the few
 -- that show it.
-use Rattle.std.proofs.Common.{◌≡◌, ℕ, suc, zero, ◌+◌, ◌≤◌, ◌<◌, ◌⊎◌, inl, inr, Bool, true, false, List, [], ◌∷◌, ◌++◌, length, take, drop, refl, ap, sym, ◌∙◌, arith, append_assoc, Ok, Err, is_err, subst, take-take, take-add, drop-drop}
+use Rattle.std.proofs.Common.{◌≡◌, ℕ, suc, zero, ◌+◌, ◌≤◌, ◌<◌, ◌⊎◌, inl, inr, Bool, true, false, List, [], ◌∷◌, ◌++◌, length, take, drop, refl, ap, sym, ◌∙◌, arith, append_assoc, Ok, Err, subst, take-take, take-add, drop-drop}
 use Rattle.std.proofs.lemmas.List.{drop-take}
-use Rattle.std.specs.Prelude.{if◌then◌else◌}
+use Rattle.std.specs.Prelude.{if◌then◌else◌, ◌||◌, not}
 use Rattle.wt_grammar.specs.declared.lexeme.Kind.{Kind}
 use Rattle.wt_grammar.specs.declared.fault.QueryFault.TheVariants as fault
 use Rattle.wt_grammar.specs.Lexemes.{Tokens, kind, place}
@@ -43,13 +43,35 @@ some_looked (refused fault.NotInSubquery) = omega arith
 some_looked (refused _) = omega arith
 some_looked (odd f) = omega arith
 
-pub err_plus : {A : Type 0} (n : ℕ) (r : Read A) → is_err r ≡ true → is_err (plus n r) ≡ true
-err_plus n (Ok x) h = absurd cc
-err_plus n (Err e) h = refl
+-- refused for want of a level
+abbrev pub too_deep : Refusal → Bool
+too_deep (refused fault.TooDeep) = true
+too_deep _ = false
 
-pub err_followed : {A B : Type 0} (ts : Tokens) (r : Read A) (g : A → Tokens → Read B) → is_err r ≡ true → is_err (followed ts r g) ≡ true
-err_followed ts (Ok x) g h = absurd cc
-err_followed ts (Err e) g h = refl
+-- refused, and for want of a level only where that is asked for
+abbrev pub refuses : {A : Type 0} → Bool → Read A → Bool
+refuses deep (Ok x) = false
+refuses deep (Err e) = deep || not (too_deep e.0)
+
+pub refuses_same : (why : Refusal) → (too_deep why || not (too_deep why)) ≡ true
+refuses_same why = by (too_deep why)
+  where
+    by : (b : Bool) → (b || not b) ≡ true
+    by true = refl
+    by false = refl
+
+-- what is not refused for want of a level
+pub refuses_any : (deep : Bool) (why : Refusal) → too_deep why ≡ false → (deep || not (too_deep why)) ≡ true
+refuses_any true why h = refl
+refuses_any false why h = ap not h
+
+pub refuses_plus : {A : Type 0} (deep : Bool) (n : ℕ) (r : Read A) → refuses deep r ≡ true → refuses deep (plus n r) ≡ true
+refuses_plus deep n (Ok x) h = absurd cc
+refuses_plus deep n (Err e) h = h
+
+pub refuses_followed : {A B : Type 0} (deep : Bool) (ts : Tokens) (r : Read A) (g : A → Tokens → Read B) → refuses deep r ≡ true → refuses deep (followed ts r g) ≡ true
+refuses_followed deep ts (Ok x) g h = absurd cc
+refuses_followed deep ts (Err e) g h = h
 
 module _ (end : ℕ) (bytes : List ℕ) where
   no_tuple_left : (m k : ℕ) (ts : Tokens) → IsNoTuple end bytes (take k (drop m ts)) (drop k (drop m ts)) → IsNoTuple end bytes (take (m + k) ts) (drop (m + k) ts)
@@ -62,7 +84,7 @@ module _ (end : ℕ) (bytes : List ℕ) where
   -- turns out to be no tuple. It shows no sooner than behind d tokens.
   abbrev pub Refuses : {A : Type 0} → ℕ → (Tokens → Read A) → Tokens → Refusal → ℕ → Type 0
   Refuses d part ts why k =
-      ((d < k + looked why) × ((us : Tokens) → Agree (k + looked why) us ts → is_err (part us) ≡ true))
+      ((d < k + looked why) × ((us : Tokens) → Agree (k + looked why) us ts → refuses (too_deep why) (part us) ≡ true))
       ⊎ ((why ≡ refused fault.Syntax) × IsNoTuple end bytes (take k ts) (drop k ts))
 
   -- what a reading that answers so owes
@@ -82,13 +104,18 @@ module _ (end : ℕ) (bytes : List ℕ) where
   unfolding LocalAt
   value_at d n x ts h = (h, λ us a. refl)
 
-  -- refused, whatever stands there
-  pub refusal_at : (A : Type 0) (d k : ℕ) (why : Tokens → Refusal) (ts : Tokens) → d < k + looked (why ts) → LocalAt {A = A} d (λ us. Err (why us, place end (drop k us))) ts
+  -- refused, whatever stands behind
+  pub refusal_at : (A : Type 0) (d k : ℕ) (why : Refusal) (ts : Tokens) → d < k + looked why → LocalAt {A = A} d (λ us. Err (why, place end (drop k us))) ts
   unfolding LocalAt
-  refusal_at A d k why ts h = (k, refl, inl (h, λ us a. refl))
+  refusal_at A d k why ts h = (k, refl, inl (h, λ us a. refuses_same why))
+
+  -- refused by a table of what has a level
+  pub table_at : (A : Type 0) (d k : ℕ) (why : Tokens → Refusal) (ts : Tokens) → d < k + looked (why ts) → ((us : Tokens) → too_deep (why us) ≡ false) → LocalAt {A = A} d (λ us. Err (why us, place end (drop k us))) ts
+  unfolding LocalAt
+  table_at A d k why ts h never = (k, refl, inl (h, λ us a. refuses_any (too_deep (why ts)) (why us) (never us)))
 
   -- refused as soon as the first token is seen
-  pub barred_at : {A : Type 0} (part : Tokens → Read A) (why : Refusal) (ts : Tokens) → part ts ≡ Err (why, place end ts) → ((us : Tokens) → Agree 1 us ts → is_err (part us) ≡ true) → LocalAt 0 part ts
+  pub barred_at : {A : Type 0} (part : Tokens → Read A) (why : Refusal) (ts : Tokens) → part ts ≡ Err (why, place end ts) → ((us : Tokens) → Agree 1 us ts → refuses (too_deep why) (part us) ≡ true) → LocalAt 0 part ts
   unfolding LocalAt
   barred_at part why ts e h =
       subst (Gives 0 part ts) (sym e) (0, refl, inl (omega (arith, some_looked why), λ us a. h us (agree_less 1 (0 + looked why) us ts (omega (arith, some_looked why)) a)))
@@ -127,7 +154,7 @@ module _ (end : ℕ) (bytes : List ℕ) where
     where
       by : (r : Read A) → Gives d q ts r → Gives d part ts r
       by (Ok x) (l, s) = (l, λ us a. same us (agree_less (suc d) (suc x.1) us ts (omega (arith, l)) a) ∙ s us a)
-      by (Err e) (k, p, inl (l, s)) = (k, p, inl (l, λ us a. ap is_err (same us (agree_less (suc d) (k + looked e.0) us ts (omega (arith, l)) a)) ∙ s us a))
+      by (Err e) (k, p, inl (l, s)) = (k, p, inl (l, λ us a. ap (refuses (too_deep e.0)) (same us (agree_less (suc d) (k + looked e.0) us ts (omega (arith, l)) a)) ∙ s us a))
       by (Err e) (k, p, inr r) = (k, p, inr r)
 
   -- a reading that looks at what the tokens behind the first j begin with
@@ -159,7 +186,7 @@ module _ (end : ℕ) (bytes : List ℕ) where
       by : (r : Read A) → Gives d q (drop j ts) r → Gives (j + d) (λ us. plus j (q (drop j us))) ts (plus j r)
       by (Ok x) (l, s) = (omega (arith, l), λ us a. ap (plus j) (s (drop j us) (size x.1 us a)))
       by (Err e) (k, p, inl (l, s)) =
-          (j + k, p ∙ ap (place end) (drop-drop k j ts), inl (omega (arith, l), λ us a. err_plus j (q (drop j us)) (s (drop j us) (shown k (looked e.0) us a))))
+          (j + k, p ∙ ap (place end) (drop-drop k j ts), inl (omega (arith, l), λ us a. refuses_plus (too_deep e.0) j (q (drop j us)) (s (drop j us) (shown k (looked e.0) us a))))
       by (Err e) (k, p, inr (w, r)) = (j + k, p ∙ ap (place end) (drop-drop k j ts), inr (w, no_tuple_left j k ts r))
 
   -- a reading, and what follows it
@@ -182,8 +209,8 @@ module _ (end : ℕ) (bytes : List ℕ) where
         inl (
           omega (arith, l, l'),
           λ us a.
-              ap (λ z. is_err (followed us z g)) (s us (agree_less (suc x.1) (x.1 + k + looked e.0) us ts (omega (arith, l')) a))
-              ∙ err_plus x.1 (g x.0 (drop x.1 us)) (s' (drop x.1 us) (agree_behind x.1 (k + looked e.0) us ts
+              ap (λ z. refuses (too_deep e.0) (followed us z g)) (s us (agree_less (suc x.1) (x.1 + k + looked e.0) us ts (omega (arith, l')) a))
+              ∙ refuses_plus (too_deep e.0) x.1 (g x.0 (drop x.1 us)) (s' (drop x.1 us) (agree_behind x.1 (k + looked e.0) us ts
               (let f : x.1 + k + looked e.0 ≡ x.1 + (k + looked e.0) = omega arith in subst (λ n. Agree n us ts) f a))),
         ),
       )
@@ -191,7 +218,7 @@ module _ (end : ℕ) (bytes : List ℕ) where
 
       by : (r : Read A) → Gives d part ts r → ((x : A) (m : ℕ) → r ≡ Ok (x, m) → LocalAt 0 (g x) (drop m ts)) → Gives d (λ us. followed us (part us) g) ts (followed ts r g)
       by (Ok x) (l, s) next = more x l s (g x.0 (drop x.1 ts)) (next x.0 x.1 refl)
-      by (Err e) (k, p, inl (l, s)) next = (k, p, inl (l, λ us a. err_followed us (part us) g (s us a)))
+      by (Err e) (k, p, inl (l, s)) next = (k, p, inl (l, λ us a. refuses_followed (too_deep e.0) us (part us) g (s us a)))
       by (Err e) (k, p, inr r) next = (k, p, inr r)
 
   -- a reading that nothing but a value follows

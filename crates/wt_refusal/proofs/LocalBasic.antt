@@ -1,5 +1,5 @@
 -- What begins with a parenthesis, or with an operand, is read by the tokens that it takes and the one behind them.
-use Rattle.std.proofs.Common.{◌≡◌, ℕ, suc, zero, ◌+◌, ◌≤◌, ◌<◌, ◌⊎◌, inl, inr, Bool, true, false, List, [], ◌∷◌, ◌++◌, length, drop, take, refl, ap, sym, ◌∙◌, arith, Ok, Err, is_err, subst, nat_lt}
+use Rattle.std.proofs.Common.{◌≡◌, ℕ, suc, zero, ◌+◌, ◌≤◌, ◌<◌, ◌⊎◌, inl, inr, Bool, true, false, List, [], ◌∷◌, ◌++◌, length, drop, take, refl, ap, sym, ◌∙◌, arith, Ok, Err, subst, nat_lt}
 use Rattle.std.proofs.lemmas.Bool.{ltb-true, ltb-false}
 use Rattle.std.proofs.lemmas.List.{take-append-le}
 use Rattle.std.proofs.Math.Seq.{take-append_seam}
@@ -18,7 +18,7 @@ use Rattle.wt_sentence.proofs.Took.{Took, list_sound, within_at, behind_front}
 use Rattle.wt_sentence.proofs.SoundParts.{column_sound}
 use Rattle.wt_sentence.proofs.Tuples.{tuple_opens}
 use Rattle.wt_refusal.specs.Refused.{looked, IsNoTuple}
-use Rattle.wt_refusal.proofs.Local.{Agree, agree_front, agree_less, agree_behind, kind_front, some_looked, LocalAt, Local, Gives, refusal_at, barred_at, less_at, deep_at, as_at, test_at, behind_at, then_at, same_value}
+use Rattle.wt_refusal.proofs.Local.{Agree, agree_front, agree_less, agree_behind, kind_front, some_looked, LocalAt, Local, Gives, too_deep, refuses, refuses_any, refusal_at, barred_at, less_at, deep_at, as_at, test_at, behind_at, then_at, same_value}
 use Rattle.wt_refusal.proofs.LocalParts.{run_local, by_place, column_local, operand_local, some_there}
 use Rattle.wt_refusal.proofs.LocalTuples.{Closes, ColumnCloses, tuple_column, column_first}
 use Rattle.wt_refusal.proofs.LocalConditions.{LocalBelow, listed_at, none_listed, subquery_at, after_operand_local}
@@ -30,21 +30,21 @@ module _ (end : ℕ) (bytes : List ℕ) (ns : Nest) (below : LocalBelow end byte
   not_in_tuple : Tokens → Read CondTree
   not_in_tuple us = if is_open (kind (drop 2 us)) && is_select (kind (drop 3 us)) then read.no end fault.NotInSubquery us else read.no end fault.Syntax us
 
-  not_in_refused : (us : Tokens) → is_err (not_in_tuple us) ≡ true
+  not_in_refused : (deep : Bool) (us : Tokens) → refuses deep (not_in_tuple us) ≡ true
   unfolding not_in_tuple
-  not_in_refused us = by (is_open (kind (drop 2 us)) && is_select (kind (drop 3 us)))
+  not_in_refused deep us = by (is_open (kind (drop 2 us)) && is_select (kind (drop 3 us)))
     where
-      by : (b : Bool) → is_err (if b then read.no end {A = CondTree} fault.NotInSubquery us else read.no end fault.Syntax us) ≡ true
-      by true = refl
-      by false = refl
+      by : (b : Bool) → refuses deep (if b then read.no end {A = CondTree} fault.NotInSubquery us else read.no end fault.Syntax us) ≡ true
+      by true = refuses_any deep (refused fault.NotInSubquery) refl
+      by false = refuses_any deep (refused fault.Syntax) refl
 
   not_in_local : Local end bytes 0 not_in_tuple
   unfolding not_in_tuple
   not_in_local ts = by (is_open (kind (drop 2 ts)) && is_select (kind (drop 3 ts))) refl
     where
       by : (b : Bool) → (is_open (kind (drop 2 ts)) && is_select (kind (drop 3 ts))) ≡ b → LocalAt end bytes 0 not_in_tuple ts
-      by true e = barred_at end bytes not_in_tuple (refused fault.NotInSubquery) ts (rw e refl) (λ us a. not_in_refused us)
-      by false e = barred_at end bytes not_in_tuple (refused fault.Syntax) ts (rw e refl) (λ us a. not_in_refused us)
+      by true e = barred_at end bytes not_in_tuple (refused fault.NotInSubquery) ts (rw e refl) (λ us a. not_in_refused false us)
+      by false e = barred_at end bytes not_in_tuple (refused fault.Syntax) ts (rw e refl) (λ us a. not_in_refused false us)
 
   after_tuple_local : ns.room ≡ true → (at : ℕ) (cs : List ColumnName) → Local end bytes 0 (read.after_tuple end bytes ns at cs)
   unfolding read.after_tuple not_in_tuple
@@ -58,8 +58,8 @@ module _ (end : ℕ) (bytes : List ℕ) (ns : Nest) (below : LocalBelow end byte
       (λ s. less_at end bytes 1 2 _ ts (omega arith) (test_at end bytes is_select 2 2 (λ us. plus 1 (read.subquery end bytes ns at cs (place end us) (drop 1 us))) (λ us. read.no end fault.Syntax (drop 2 us)) ts (omega arith)
       (λ s. by_place end bytes 2 (λ p us. plus 1 (read.subquery end bytes ns at cs p (drop 1 us))) ts
       (behind_at end bytes 1 1 (read.subquery end bytes ns at cs (place end ts)) ts (subquery_at end bytes ns below at cs (place end ts) (drop 1 ts) room)))
-      (λ s. refusal_at end bytes CondTree 2 2 (λ us. refused fault.Syntax) ts (omega arith))))
-      (λ s. refusal_at end bytes CondTree 1 1 (λ us. refused fault.Syntax) ts (omega arith))))
+      (λ s. refusal_at end bytes CondTree 2 2 (refused fault.Syntax) ts (omega arith))))
+      (λ s. refusal_at end bytes CondTree 1 1 (refused fault.Syntax) ts (omega arith))))
       (λ s. not_in_local ts)
 
   tuple_at : ns.room ≡ true → (ts : Tokens) (c : ColumnName) (m : ℕ) → read.column end bytes (drop 1 ts) ≡ Ok (c, m) → LocalAt end bytes (1 + m) (read.tuple_in end bytes ns) ts
@@ -85,7 +85,7 @@ module _ (end : ℕ) (bytes : List ℕ) (ns : Nest) (below : LocalBelow end byte
     where
       in_there : (l : Tokens) (r : Read CondTree) (k : ℕ) → ((is_in (kind l) ≡ true) × (r ≡ Ok (x, k))) ⊎ ((is_in (kind l) ≡ false) × (not_in_tuple l ≡ Ok (x, k))) → is_in (kind l) ≡ true
       in_there l r k (inl p) = p.0
-      in_there l r k (inr p) = let z = ap is_err (sym p.1) ∙ not_in_refused l in absurd cc
+      in_there l r k (inr p) = let z = ap (refuses true) (sym p.1) ∙ not_in_refused true l in absurd cc
 
   -- ---- what a parenthesis opens
 
@@ -105,13 +105,13 @@ module _ (end : ℕ) (bytes : List ℕ) (ns : Nest) (below : LocalBelow end byte
   as_condition us s t = rw (s, t) refl
 
   -- refused as whatever it is read as
-  opened_refused : (us : Tokens) → (opens_tuple us ≡ true → is_err (read.tuple_in end bytes ns us) ≡ true) → (opens_tuple us ≡ false → is_err (ns.conds us) ≡ true) → is_err (opened us) ≡ true
-  opened_refused us tuple condition = by (is_select (kind (drop 1 us))) refl (opens_tuple us) refl
+  opened_refused : (deep : Bool) (us : Tokens) → (opens_tuple us ≡ true → refuses deep (read.tuple_in end bytes ns us) ≡ true) → (opens_tuple us ≡ false → refuses deep (ns.conds us) ≡ true) → refuses deep (opened us) ≡ true
+  opened_refused deep us tuple condition = by (is_select (kind (drop 1 us))) refl (opens_tuple us) refl
     where
-      by : (s : Bool) → is_select (kind (drop 1 us)) ≡ s → (t : Bool) → opens_tuple us ≡ t → is_err (opened us) ≡ true
-      by true s t h = ap is_err (as_query us s)
-      by false s true h = ap is_err (as_tuple us s h) ∙ tuple h
-      by false s false h = ap is_err (as_condition us s h) ∙ condition h
+      by : (s : Bool) → is_select (kind (drop 1 us)) ≡ s → (t : Bool) → opens_tuple us ≡ t → refuses deep (opened us) ≡ true
+      by true s t h = ap (refuses deep) (as_query us s) ∙ refuses_any deep (refused fault.Subquery) refl
+      by false s true h = ap (refuses deep) (as_tuple us s h) ∙ tuple h
+      by false s false h = ap (refuses deep) (as_condition us s h) ∙ condition h
 
   -- a column, and a comma or the closing parenthesis behind it, are no condition in parentheses
   column_refused : ns.room ≡ true → (us : Tokens) → (p : ColumnCloses end bytes (drop 1 us)) → ns.conds us ≡ Err (refused fault.Syntax, place end (drop p.1 (drop 1 us)))
@@ -119,6 +119,16 @@ module _ (end : ℕ) (bytes : List ℕ) (ns : Nest) (below : LocalBelow end byte
       let (a, b, f, l, p) = column_sound end bytes (drop 1 us) c m e in
       let rest = behind_front (drop 1 us) a b m f l in
       below.column_closed room us a b c m e f p (subst (λ l. Closes (kind l)) rest closes) ∙ ap (λ l. Err (refused fault.Syntax, place end l)) (sym rest)
+
+  -- the second token is the same
+  select_same : (b : Bool) (n : ℕ) (us ts : Tokens) → 1 ≤ n → Agree (suc n) us ts → is_select (kind (drop 1 ts)) ≡ b → is_select (kind (drop 1 us)) ≡ b
+  select_same b n us ts h a e = ap is_select (agree_front kind kind_front 1 n us ts h a) ∙ e
+
+  -- a query
+  query_opened : (ts : Tokens) → is_select (kind (drop 1 ts)) ≡ true → LocalAt end bytes 0 opened ts
+  query_opened ts s =
+      less_at end bytes 0 1 opened ts (omega arith) (as_at end bytes 1 opened (read.no end fault.Subquery) ts (λ us a. as_query us (select_same true 1 us ts (omega arith) a s))
+      (refusal_at end bytes CondTree 1 0 (refused fault.Subquery) ts (omega arith)))
 
   -- no level is left
   none_opened : ns.room ≡ false → (ts : Tokens) → LocalAt end bytes 0 opened ts
@@ -128,17 +138,13 @@ module _ (end : ℕ) (bytes : List ℕ) (ns : Nest) (below : LocalBelow end byte
       deep : (us : Tokens) → read.tuple_in end bytes ns us ≡ Err (refused fault.TooDeep, place end us)
       deep us = ap (λ r. followed us r (λ cs rest. read.after_tuple end bytes ns (place end us) cs rest)) (none_listed end bytes ns below (read.column end bytes) us room)
 
-      fails : (us : Tokens) → is_err (opened us) ≡ true
-      fails us = opened_refused us (λ h. ap is_err (deep us)) (λ h. ap is_err (below.no_conds room us))
+      fails : (us : Tokens) → refuses true (opened us) ≡ true
+      fails us = opened_refused true us (λ h. ap (refuses true) (deep us)) (λ h. ap (refuses true) (below.no_conds room us))
 
       by : (s : Bool) → is_select (kind (drop 1 ts)) ≡ s → (t : Bool) → opens_tuple ts ≡ t → LocalAt end bytes 0 opened ts
-      by true s t h = barred_at end bytes opened (refused fault.Subquery) ts (as_query ts s) (λ us a. fails us)
+      by true s t h = query_opened ts s
       by false s true h = barred_at end bytes opened (refused fault.TooDeep) ts (as_tuple ts s h ∙ deep ts) (λ us a. fails us)
       by false s false h = barred_at end bytes opened (refused fault.TooDeep) ts (as_condition ts s h ∙ below.no_conds room ts) (λ us a. fails us)
-
-  -- the second token is the same
-  select_same : (b : Bool) (n : ℕ) (us ts : Tokens) → 1 ≤ n → Agree (suc n) us ts → is_select (kind (drop 1 ts)) ≡ b → is_select (kind (drop 1 us)) ≡ b
-  select_same b n us ts h a e = ap is_select (agree_front kind kind_front 1 n us ts h a) ∙ e
 
   column_same : (us ts : Tokens) (n : ℕ) → (p : ColumnCloses end bytes (drop 1 ts)) → 2 + p.1 ≤ n → Agree n us ts → ColumnCloses end bytes (drop 1 us)
   column_same us ts n (c, m, e, closes) h a =
@@ -170,7 +176,7 @@ module _ (end : ℕ) (bytes : List ℕ) (ns : Nest) (below : LocalBelow end byte
         inl (
           omega (arith, l),
           λ us a.
-              opened_refused us (λ h. same us a) (λ h. ap is_err (column_refused room us (column_same us ts (k + looked e.0) p (omega (arith, l)) a))),
+              opened_refused (too_deep e.0) us (λ h. same us a) (λ h. ap (refuses (too_deep e.0)) (column_refused room us (column_same us ts (k + looked e.0) p (omega (arith, l)) a)) ∙ refuses_any (too_deep e.0) (refused fault.Syntax) refl),
         ),
       )
       by p (Err e) (k, at, inr r) = (k, at, inr r)
@@ -222,15 +228,15 @@ module _ (end : ℕ) (bytes : List ℕ) (ns : Nest) (below : LocalBelow end byte
           let fits : n ≤ length (u ∷ b) = omega (arith, h, size) in
           (u ∷ (b ++ l'), (x, k), take-append-le n (u ∷ b) l' fits ∙ sym (take-append-le n (u ∷ b) l fits) ∙ ap (λ z. take n (u ∷ z)) (sym f), q)
 
-      clash : (n : ℕ) (us : Tokens) → 1 < n → Agree n us ts → ((vs : Tokens) → Agree n vs ts → is_err (ns.conds vs) ≡ true) → ColumnCloses end bytes (drop 1 us) → ⊥
-      clash n us l a fails p = which (nat_lt n (2 + p.1)) refl
+      clash : (deep : Bool) (n : ℕ) (us : Tokens) → 1 < n → Agree n us ts → ((vs : Tokens) → Agree n vs ts → refuses deep (ns.conds vs) ≡ true) → ColumnCloses end bytes (drop 1 us) → ⊥
+      clash deep n us l a fails p = which (nat_lt n (2 + p.1)) refl
         where
           which : (b : Bool) → nat_lt n (2 + p.1) ≡ b → ⊥
           which false h = none (column_same ts us n p (ltb-false n (2 + p.1) h) (sym a))
           which true h =
               let is : is_open (kind us) ≡ true = ap is_open (agree_front kind kind_front 0 0 us ts (omega arith) (agree_less 1 n us ts (omega (arith, l)) a)) ∙ opens in
               let (vs, x, a', q) = goes_on us n is p (omega (arith, ltb-true n (2 + p.1) h)) in
-              let z = ap is_err (sym q) ∙ fails vs (a' ∙ a) in
+              let z = ap (refuses deep) (sym q) ∙ fails vs (a' ∙ a) in
               absurd cc
 
       by : (r : Read CondTree) → Gives end bytes 1 ns.conds ts r → Gives end bytes 0 opened ts r
@@ -245,16 +251,14 @@ module _ (end : ℕ) (bytes : List ℕ) (ns : Nest) (below : LocalBelow end byte
         inl (
           omega (arith, l),
           λ us a.
-              opened_refused us (λ h. absurd (clash (k + looked e.0) us l a fails (tuple_column end bytes (drop 1 us) h))) (λ h. fails us a),
+              opened_refused (too_deep e.0) us (λ h. absurd (clash (too_deep e.0) (k + looked e.0) us l a fails (tuple_column end bytes (drop 1 us) h))) (λ h. fails us a),
         ),
       )
       by (Err e) (k, at, inr r) = (k, at, inr r)
 
   opened_at : (ts : Tokens) → is_open (kind ts) ≡ true → (room : Bool) → ns.room ≡ room → (s : Bool) → is_select (kind (drop 1 ts)) ≡ s → (t : Bool) → opens_tuple ts ≡ t → LocalAt end bytes 0 opened ts
   opened_at ts opens false room s is_s t is_t = none_opened room ts
-  opened_at ts opens true room true s t is_t =
-      less_at end bytes 0 1 opened ts (omega arith) (as_at end bytes 1 opened (read.no end fault.Subquery) ts (λ us a. as_query us (select_same true 1 us ts (omega arith) a s))
-      (refusal_at end bytes CondTree 1 0 (λ us. refused fault.Subquery) ts (omega arith)))
+  opened_at ts opens true room true s t is_t = query_opened ts s
   opened_at ts opens true room false s true t = tuple_opened room ts opens s t
   opened_at ts opens true room false s false t = by (closes_or_not (drop 1 ts))
     where

@@ -1,5 +1,5 @@
 -- Conditions are read by the tokens that they take and the one behind them.
-use Rattle.std.proofs.Common.{◌≡◌, ℕ, suc, zero, ◌+◌, ◌≤◌, ◌<◌, ◌⊎◌, inl, inr, Bool, true, false, List, [], ◌∷◌, ◌++◌, length, drop, take, refl, ap, sym, ◌∙◌, arith, Ok, Err, is_err, Option, Some, None, subst, drop-drop}
+use Rattle.std.proofs.Common.{◌≡◌, ℕ, suc, zero, ◌+◌, ◌≤◌, ◌<◌, ◌⊎◌, inl, inr, Bool, true, false, List, [], ◌∷◌, ◌++◌, length, drop, take, refl, ap, sym, ◌∙◌, arith, Ok, Err, Option, Some, None, subst, drop-drop}
 use Rattle.std.specs.Prelude.{if◌then◌else◌, ◌&&◌}
 use Rattle.wt_ast.specs.declared.tree.ColumnName.{ColumnName}
 use Rattle.wt_ast.specs.declared.tree.CmpWord.{CmpWord}
@@ -16,8 +16,8 @@ use Rattle.wt_grammar.specs.Reading.{Read, Refusal, Nest, refused, plus, followe
 use Rattle.wt_sentence.specs.Grammar.{Column}
 use Rattle.wt_sentence.proofs.Follows.{in_is}
 use Rattle.wt_refusal.specs.Refused.{looked}
-use Rattle.wt_refusal.proofs.Local.{Agree, agree_front, kind_front, some_looked, LocalAt, Local, value_at, refusal_at, barred_at, less_at, as_at, seen_at, test_at, behind_at, then_at, last_at, err_followed}
-use Rattle.wt_refusal.proofs.LocalParts.{list_at, run_local, expect_local, closed_at, by_place, column_local, operand_local, literal_local}
+use Rattle.wt_refusal.proofs.Local.{Agree, agree_front, kind_front, some_looked, LocalAt, Local, value_at, refusal_at, barred_at, less_at, as_at, seen_at, test_at, behind_at, then_at, last_at, refuses}
+use Rattle.wt_refusal.proofs.LocalParts.{list_at, run_local, by_kind, expect_local, closed_at, by_place, column_local, operand_local, literal_local}
 use Rattle.wt_refusal.proofs.LocalTuples.{Closes}
 
 pub both : (a b : Bool) → (a && b) ≡ true → (a ≡ true) × (b ≡ true)
@@ -53,7 +53,7 @@ module _ (end : ℕ) (bytes : List ℕ) where
       (behind_at end bytes 1 0 (read.between end bytes at a (place end ts)) ts (between_local at a (place end ts) (drop 1 ts)))
 
   compared_local : (o : Option CmpWord) (at : ℕ) (a : Scalar) → Local end bytes 0 (read.compared_by end bytes o at a)
-  compared_local None at a ts = refusal_at end bytes CondTree 0 0 (λ us. refused fault.Syntax) ts (omega arith)
+  compared_local None at a ts = refusal_at end bytes CondTree 0 0 (refused fault.Syntax) ts (omega arith)
   compared_local (Some w) at a ts =
       by_place end bytes 0 (λ p us. plus 1 (followed (drop 1 us) (read.operand end bytes (drop 1 us)) (λ b rest. Ok (compare at w a b p, 0)))) ts
       (less_at end bytes 0 1 _ ts (omega arith) (behind_at end bytes 1 0 (λ l. followed l (read.operand end bytes l) (λ b rest. Ok (compare at w a b (place end ts), 0))) ts
@@ -76,7 +76,7 @@ module _ (end : ℕ) (bytes : List ℕ) where
   of_column_at : {A : Type 0} (d : ℕ) (a : Scalar) (f : ColumnName → Tokens → Read A) (ts : Tokens) → d ≤ 0 → ((c : ColumnName) → a ≡ scalar.Column c → LocalAt end bytes d (f c) ts)
       → LocalAt end bytes d (λ us. of_column end a (λ c. f c us) us) ts
   of_column_at d (scalar.Column c) f ts h local = local c refl
-  of_column_at {A} d (scalar.Literal v at) f ts h local = refusal_at end bytes A d 0 (λ us. refused fault.Syntax) ts (omega (arith, h))
+  of_column_at {A} d (scalar.Literal v at) f ts h local = refusal_at end bytes A d 0 (refused fault.Syntax) ts (omega (arith, h))
 
   module _ (ns : Nest) (below : LocalBelow ns) where
     -- in parentheses, with a level left or not
@@ -117,7 +117,7 @@ module _ (end : ℕ) (bytes : List ℕ) where
     query_or_values_at true room at c word ts =
         less_at end bytes 0 1 (query_or_values at c word) ts (omega arith) (test_at end bytes is_select 1 1 (read.subquery end bytes ns at (c ∷ []) word) (read.values end bytes ns at c word) ts (omega arith)
         (λ s. subquery_at at (c ∷ []) word ts room) (λ s. values_at at c word ts room))
-    query_or_values_at false room at c word ts = barred_at end bytes (query_or_values at c word) (refused fault.TooDeep) ts (deep ts) (λ us a. ap is_err (deep us))
+    query_or_values_at false room at c word ts = barred_at end bytes (query_or_values at c word) (refused fault.TooDeep) ts (deep ts) (λ us a. ap (refuses true) (deep us))
       where
         deep : (us : Tokens) → query_or_values at c word us ≡ Err (refused fault.TooDeep, place end us)
         deep us = by (is_select (kind (drop 1 us)))
@@ -130,7 +130,7 @@ module _ (end : ℕ) (bytes : List ℕ) where
     unfolding read.in_part query_or_values
     in_part_local at c word ts =
         test_at end bytes is_open 0 0 (query_or_values at c word) (read.no end fault.Syntax) ts (omega arith)
-        (λ s. query_or_values_at ns.room refl at c word ts) (λ s. refusal_at end bytes CondTree 0 0 (λ us. refused fault.Syntax) ts (omega arith))
+        (λ s. query_or_values_at ns.room refl at c word ts) (λ s. refusal_at end bytes CondTree 0 0 (refused fault.Syntax) ts (omega arith))
 
     -- the parenthesis behind NOT IN
     not_values : ℕ → ColumnName → ℕ → Tokens → Read CondTree
@@ -150,9 +150,9 @@ module _ (end : ℕ) (bytes : List ℕ) where
         deep : (us : Tokens) → not_values at c word us ≡ Err (refused fault.TooDeep, place end us)
         deep us = ap (λ r. followed us r (λ x rest. Ok (negated at x, 0))) (no_values at c word us room)
 
-        either : (us : Tokens) (b : Bool) → is_err (if b then Err (refused fault.NotInSubquery, not_at) else not_values at c word us) ≡ true
+        either : (us : Tokens) (b : Bool) → refuses true (if b then Err (refused fault.NotInSubquery, not_at) else not_values at c word us) ≡ true
         either us true = refl
-        either us false = ap is_err (deep us)
+        either us false = ap (refuses true) (deep us)
 
     -- Behind NOT IN, where no query follows. One would be refused at the NOT.
     not_in_local : (at : ℕ) (c : ColumnName) (not_at word : ℕ) (ts : Tokens) → (is_open (kind ts) && is_select (kind (drop 1 ts))) ≡ false → LocalAt end bytes 0 (read.not_in_part end bytes ns at c not_at word) ts
@@ -160,7 +160,7 @@ module _ (end : ℕ) (bytes : List ℕ) where
     not_in_local at c not_at word ts none =
         test_at end bytes is_open 0 0 (no_query_but_values at c not_at word) (read.no end fault.Syntax) ts (omega arith)
         (λ s. not_values_at ns.room refl at c not_at word ts (ap (λ b. b && is_select (kind (drop 1 ts))) (sym s) ∙ none))
-        (λ s. refusal_at end bytes CondTree 0 0 (λ us. refused fault.Syntax) ts (omega arith))
+        (λ s. refusal_at end bytes CondTree 0 0 (refused fault.Syntax) ts (omega arith))
 
     -- behind NOT, unless it is IN and a query
     after_not_local : (at : ℕ) (a : Scalar) (not_at : ℕ) (ts : Tokens) → ((c : ColumnName) → a ≡ scalar.Column c → (is_in (kind ts) && (is_open (kind (drop 1 ts)) && is_select (kind (drop 2 ts)))) ≡ false)
@@ -177,7 +177,7 @@ module _ (end : ℕ) (bytes : List ℕ) where
         by_place end bytes 0 (λ p us. plus 1 (read.not_in_part end bytes ns at c not_at p (drop 1 us))) ts
         (less_at end bytes 0 1 _ ts (omega arith) (behind_at end bytes 1 0 (read.not_in_part end bytes ns at c not_at (place end ts)) ts
         (not_in_local at c not_at (place end ts) (drop 1 ts) (values_follow c e s))))))
-        (λ s. refusal_at end bytes CondTree 0 0 (λ us. refused (no_negated (kind us))) ts (omega (arith, some_looked (refused (no_negated (kind ts)))))))
+        (λ s. by_kind end bytes CondTree no_negated ts))
       where
         values_follow : (c : ColumnName) → a ≡ scalar.Column c → is_in (kind ts) ≡ true → (is_open (kind (drop 1 ts)) && is_select (kind (drop 1 (drop 1 ts)))) ≡ false
         values_follow c e s =
@@ -216,7 +216,7 @@ module _ (end : ℕ) (bytes : List ℕ) where
         by (scalar.Column c) false e = plain (scalar.Column c) (λ d f. e)
         by (scalar.Column c) true e =
             less_at end bytes 0 3 _ ts (omega arith) (as_at end bytes 3 (λ us. plus 1 (read.after_not end bytes ns at (scalar.Column c) (place end us) (drop 1 us))) (λ us. Err (refused fault.NotInSubquery, place end us)) ts
-            (λ us h. query_refused at c us (same us h ∙ e)) (refusal_at end bytes CondTree 3 0 (λ us. refused fault.NotInSubquery) ts (omega arith)))
+            (λ us h. query_refused at c us (same us h ∙ e)) (refusal_at end bytes CondTree 3 0 (refused fault.NotInSubquery) ts (omega arith)))
 
     pub after_operand_local : (at : ℕ) (a : Scalar) → Local end bytes 0 (read.after_operand end bytes ns at a)
     unfolding read.after_operand

@@ -12,7 +12,8 @@ use Rattle.wt_ast.specs.declared.tree.Scalar.{Scalar}
 use Rattle.wt_ast.specs.declared.tree.Scalar.TheVariants as scalar
 use Rattle.wt_ast.specs.Tree.{CondTree, CondTrees}
 use Rattle.wt_grammar.specs.declared.lexeme.Kind.{Kind}
-use Rattle.wt_grammar.specs.declared.lexeme.Kind.TheVariants.{End, Number, Text, Mark}
+use Rattle.wt_grammar.specs.declared.lexeme.Kind.TheVariants.{End, Key, Number, Text, Mark}
+use Rattle.wt_grammar.specs.declared.lexeme.Word.TheVariants as word
 use Rattle.wt_grammar.specs.declared.fault.QueryFault.{QueryFault}
 use Rattle.wt_grammar.specs.declared.fault.QueryFault.TheVariants as fault
 use Rattle.wt_grammar.specs.Lexemes.{Tokens, kind, place, is_name, is_open, is_close, is_comma, is_dot, is_star, is_as}
@@ -20,7 +21,7 @@ use Rattle.wt_grammar.specs.Refusals.{beyond, no_operand, no_literal, no_item}
 use Rattle.wt_grammar.specs.Reading as read
 use Rattle.wt_grammar.specs.Reading.{Read, Refusal, refused, odd, plus, followed, taken, joined_to, more, list, run, one_or, expect, ended, ended_by, within, name_at, text_at, name_only}
 use Rattle.wt_sentence.proofs.Inversions.{skip}
-use Rattle.wt_refusal.proofs.Local.{Agree, AtFront, kind_front, place_front, some_looked, agree_front, LocalAt, Local, value_at, refusal_at, less_at, as_at, seen_at, test_at, behind_at, then_at, last_at}
+use Rattle.wt_refusal.proofs.Local.{Agree, AtFront, kind_front, place_front, some_looked, agree_front, LocalAt, Local, too_deep, value_at, refusal_at, table_at, less_at, as_at, seen_at, test_at, behind_at, then_at, last_at}
 
 -- a separator, the part behind it, and more
 abbrev turn : {A : Type 0} → (Kind → Bool) → (Tokens → Read A) → Tokens → Read (List A)
@@ -38,6 +39,29 @@ more_as {A} sep part sep_end (t ∷ ts) = ap (λ z. if sep t.kind then z else Ok
     by : (r : Read A) → joined_to r (more sep part (taken r) ts) ≡ plus 1 (followed ts r (λ x rest. followed rest (more sep part 0 rest) (λ xs r. Ok (x ∷ xs, 0))))
     by (Ok x) = ap (joined_to (Ok x)) (skip sep part x.1 ts) ∙ one x (more sep part 0 (drop x.1 ts))
     by (Err e) = refl
+
+-- no table has a refusal for want of a level
+operand_table : (k behind : Kind) → too_deep (refused (no_operand k behind)) ≡ false
+operand_table (Key word.Exists) j = refl
+operand_table (Key word.Case) j = refl
+operand_table (Key word.Cast) j = refl
+operand_table (Key word.Null) j = refl
+operand_table (Key word.True) j = refl
+operand_table (Key word.False) j = refl
+operand_table (Mark sym.Question) j = refl
+operand_table (Mark sym.Dollar) j = refl
+operand_table (Mark sym.Colon) j = refl
+operand_table (Mark sym.Plus) j = refl
+operand_table (Mark sym.Minus) j = refl
+operand_table (Mark sym.Open) (Key word.Select) = refl
+operand_table (Mark sym.Open) j = refl
+operand_table k j = refl
+
+item_table : (k behind : Kind) → too_deep (refused (no_item k behind)) ≡ false
+item_table (Number n) j = refl
+item_table Text j = refl
+item_table (Mark sym.Minus) (Number n) = refl
+item_table k j = operand_table k j
 
 pub some_there : (test : Kind → Bool) → test End ≡ false → (ts : Tokens) → test (kind ts) ≡ true → 1 ≤ length ts
 some_there test none [] h = absurd cc
@@ -71,11 +95,15 @@ module _ (end : ℕ) (bytes : List ℕ) where
   run_local sep whole part sep_end local ts =
       then_at end bytes 0 part _ ts (local ts) (λ x m e. last_at end bytes 0 (more sep part 0) (λ xs. one_or whole x xs) (drop m ts) (more_local sep sep_end part local (drop m ts)))
 
+  -- refused as the kind of the token at the front
+  pub by_kind : (A : Type 0) (other : Kind → QueryFault) (ts : Tokens) → LocalAt end bytes {A = A} 0 (λ us. Err (refused (other (kind us)), place end us)) ts
+  by_kind A other ts = seen_at end bytes kind kind_front 0 0 (λ k us. Err (refused (other k), place end us)) ts (omega arith) (refusal_at end bytes A 0 0 (refused (other (kind ts))) ts (omega (arith, some_looked (refused (other (kind ts))))))
+
   pub expect_local : (wanted : Kind → Bool) (other : Kind → QueryFault) → Local end bytes 0 (expect end wanted other)
   unfolding expect
   expect_local wanted other ts =
       test_at end bytes wanted 0 0 (λ us. Ok (tt, 1)) (λ us. Err (refused (other (kind us)), place end us)) ts (omega arith) (λ s. value_at end bytes 0 1 tt ts (omega arith))
-      (λ s. refusal_at end bytes (Unit {0}) 0 0 (λ us. refused (other (kind us))) ts (omega (arith, some_looked (refused (other (kind ts))))))
+      (λ s. by_kind (Unit {0}) other ts)
 
   -- a part behind the token at the front, and the parenthesis that closes it
   pub closed_at : {A : Type 0} (d : ℕ) (part : Tokens → Read A) (other : A → Kind → QueryFault) (ts : Tokens) → LocalAt end bytes d part (drop 1 ts) → LocalAt end bytes (1 + d) (within end part other) ts
@@ -91,7 +119,7 @@ module _ (end : ℕ) (bytes : List ℕ) where
     where
       by : (x : A) (l : Tokens) (o : Option QueryFault) → LocalAt end bytes 0 (ended_by end o x) l
       by x l None = value_at end bytes 0 0 x l (omega arith)
-      by x l (Some f) = refusal_at end bytes A 0 0 (λ us. refused f) l (omega (arith, some_looked (refused f)))
+      by x l (Some f) = refusal_at end bytes A 0 0 (refused f) l (omega (arith, some_looked (refused f)))
 
   -- ---- names and columns
 
@@ -129,7 +157,7 @@ module _ (end : ℕ) (bytes : List ℕ) where
   uncalled_at : (ts : Tokens) → LocalAt end bytes 1 (λ us. if is_open (kind (drop 1 us)) then read.no end fault.Function (drop 1 us) else Ok (name_at bytes us, 1)) ts
   uncalled_at ts =
       test_at end bytes is_open 1 1 (λ us. read.no end fault.Function (drop 1 us)) (λ us. Ok (name_at bytes us, 1)) ts (omega arith)
-      (λ s. refusal_at end bytes (List ℕ) 1 1 (λ us. refused fault.Function) ts (omega arith))
+      (λ s. refusal_at end bytes (List ℕ) 1 1 (refused fault.Function) ts (omega arith))
       (λ s. by_name 1 (λ n p us. Ok (n, 1)) ts (value_at end bytes 1 1 (name_at bytes ts) ts (omega arith)))
 
   name_by : (d : ℕ) (ts : Tokens) → d ≤ 1 → (is_name (kind ts) ≡ false → d ≡ 0) → LocalAt end bytes d (read.name end bytes) ts
@@ -137,7 +165,7 @@ module _ (end : ℕ) (bytes : List ℕ) where
   name_by d ts h none =
       test_at end bytes is_name 0 d (λ us. if is_open (kind (drop 1 us)) then read.no end fault.Function (drop 1 us) else Ok (name_at bytes us, 1)) (read.no end fault.Syntax) ts (omega arith)
       (λ s. less_at end bytes d 1 _ ts h (uncalled_at ts))
-      (λ s. refusal_at end bytes (List ℕ) d 0 (λ us. refused fault.Syntax) ts (omega (arith, none s)))
+      (λ s. refusal_at end bytes (List ℕ) d 0 (refused fault.Syntax) ts (omega (arith, none s)))
 
   pub name_local : Local end bytes 0 (read.name end bytes)
   name_local ts = name_by 0 ts (omega arith) (λ s. refl)
@@ -157,7 +185,8 @@ module _ (end : ℕ) (bytes : List ℕ) where
       test_at end bytes is_name 0 d (λ us. if is_dot (kind (drop 1 us)) then dotted_by (name_at bytes us) (place end us) us else bare_by (name_at bytes us) (place end us) us)
       (λ us. read.no end (no_operand (kind us) (kind (drop 1 us))) us) ts (omega arith)
       (λ s. if_dotted s (is_dot (kind (drop 1 ts))) refl)
-      (λ s. refusal_at end bytes ColumnName d 0 (λ us. refused (no_operand (kind us) (kind (drop 1 us)))) ts (omega (arith, none s, some_looked (refused (no_operand (kind ts) (kind (drop 1 ts)))))))
+      (λ s. table_at end bytes ColumnName d 0 (λ us. refused (no_operand (kind us) (kind (drop 1 us)))) ts (omega (arith, none s, some_looked (refused (no_operand (kind ts) (kind (drop 1 ts))))))
+      (λ us. operand_table (kind us) (kind (drop 1 us))))
     where
       if_dotted : is_name (kind ts) ≡ true → (b : Bool) → is_dot (kind (drop 1 ts)) ≡ b
           → LocalAt end bytes d (λ us. if is_dot (kind (drop 1 us)) then dotted_by (name_at bytes us) (place end us) us else bare_by (name_at bytes us) (place end us) us) ts
@@ -181,13 +210,13 @@ module _ (end : ℕ) (bytes : List ℕ) where
     where
       by : (b : Bool) → LocalAt end bytes 0 (λ us. if b then Ok (value.Int (pos n), 1) else Err (odd NumberRange, place end us)) ts
       by true = value_at end bytes 0 1 (value.Int (pos n)) ts (omega arith)
-      by false = refusal_at end bytes Value 0 0 (λ us. odd NumberRange) ts (omega arith)
+      by false = refusal_at end bytes Value 0 0 (odd NumberRange) ts (omega arith)
 
   negative_at : (n : ℕ) (ts : Tokens) → LocalAt end bytes 1 (read.negative end n) ts
   negative_at n ts = by (nat_lt (2 ^ 63) n)
     where
       by : (b : Bool) → LocalAt end bytes 1 (λ us. if b then Err (odd NumberRange, place end (drop 1 us)) else Ok (value.Int (neg_ℤ (pos n)), 2)) ts
-      by true = refusal_at end bytes Value 1 1 (λ us. odd NumberRange) ts (omega arith)
+      by true = refusal_at end bytes Value 1 1 (odd NumberRange) ts (omega arith)
       by false = value_at end bytes 1 2 (value.Int (neg_ℤ (pos n))) ts (omega arith)
 
   minus_local : Local end bytes 0 (λ us. read.negative_by end (kind (drop 1 us)) us)
@@ -195,14 +224,14 @@ module _ (end : ℕ) (bytes : List ℕ) where
     where
       by : (k : Kind) → LocalAt end bytes 1 (read.negative_by end k) ts
       by (Number n) = negative_at n ts
-      by _ = refusal_at end bytes Value 1 0 (λ us. refused fault.Arithmetic) ts (omega arith)
+      by _ = refusal_at end bytes Value 1 0 (refused fault.Arithmetic) ts (omega arith)
 
   listed_minus_local : Local end bytes 0 (λ us. read.listed_negative end (kind (drop 1 us)) us)
   listed_minus_local ts = less_at end bytes 0 1 _ ts (omega arith) (seen_at end bytes kind kind_front 1 1 (read.listed_negative end) ts (omega arith) (by (kind (drop 1 ts))))
     where
       by : (k : Kind) → LocalAt end bytes 1 (read.listed_negative end k) ts
       by (Number n) = negative_at n ts
-      by _ = refusal_at end bytes Value 1 1 (λ us. refused fault.Syntax) ts (omega arith)
+      by _ = refusal_at end bytes Value 1 1 (refused fault.Syntax) ts (omega arith)
 
   pub operand_local : Local end bytes 0 (read.operand end bytes)
   unfolding read.operand
@@ -224,7 +253,7 @@ module _ (end : ℕ) (bytes : List ℕ) where
       by (Number n) = unsigned_local n ts
       by Text = by_text 0 (λ s p us. Ok (value.Text s, 1)) ts (value_at end bytes 0 1 (value.Text (text_at bytes ts)) ts (omega arith))
       by (Mark sym.Minus) = listed_minus_local ts
-      by k = refusal_at end bytes Value 0 0 (λ us. refused (no_literal k)) ts (omega (arith, some_looked (refused (no_literal k))))
+      by k = refusal_at end bytes Value 0 0 (refused (no_literal k)) ts (omega (arith, some_looked (refused (no_literal k))))
 
   -- ---- aliases and items
 
@@ -255,7 +284,8 @@ module _ (end : ℕ) (bytes : List ℕ) where
       test_at end bytes is_name 0 d (λ us. followed us (read.column end bytes us) (λ c rest. followed rest (read.alias end bytes rest) (λ a r. Ok (items.Column c (name_only a), 0))))
       (λ us. read.no end (no_item (kind us) (kind (drop 1 us))) us) ts (omega arith)
       (λ s. then_at end bytes d (read.column end bytes) _ ts (column_by d ts h none bare) (λ c m e. last_at end bytes 0 (read.alias end bytes) (λ a. items.Column c (name_only a)) (drop m ts) (alias_local (drop m ts))))
-      (λ s. refusal_at end bytes Item d 0 (λ us. refused (no_item (kind us) (kind (drop 1 us)))) ts (omega (arith, none s, some_looked (refused (no_item (kind ts) (kind (drop 1 ts)))))))
+      (λ s. table_at end bytes Item d 0 (λ us. refused (no_item (kind us) (kind (drop 1 us)))) ts (omega (arith, none s, some_looked (refused (no_item (kind ts) (kind (drop 1 ts))))))
+      (λ us. item_table (kind us) (kind (drop 1 us))))
 
   -- what begins as `name . *`
   all_or_column : Tokens → Read Item

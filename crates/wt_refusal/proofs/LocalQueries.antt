@@ -39,7 +39,7 @@ module _ (end : ℕ) (bytes : List ℕ) where
   bare_name_local ts =
       test_at end bytes is_name 0 0 (λ us. Ok ((name_at bytes us, place end us), 1)) (read.no end fault.Syntax) ts (omega arith)
       (λ s. by_name end bytes 0 (λ n p us. Ok ((n, p), 1)) ts (value_at end bytes 0 1 (name_at bytes ts, place end ts) ts (omega arith)))
-      (λ s. refusal_at end bytes (List ℕ × ℕ) 0 0 (λ us. refused fault.Syntax) ts (omega arith))
+      (λ s. refusal_at end bytes (List ℕ × ℕ) 0 0 (refused fault.Syntax) ts (omega arith))
 
   derived_name_local : Local end bytes 0 (read.derived_name end bytes)
   unfolding read.derived_name
@@ -78,7 +78,7 @@ module _ (end : ℕ) (bytes : List ℕ) where
     listed_local : {A : Type 0} (part : Tokens → Read A) → Local end bytes 0 part → (room : Bool) → ns.room ≡ room → Local end bytes 0 (read.listed end bytes ns part)
     listed_local part local true room ts = less_at end bytes 0 1 _ ts (omega arith) (listed_at end bytes ns below 0 part ts room local (local (drop 1 ts)))
     listed_local {A} part local false room ts =
-        as_at end bytes 0 (read.listed end bytes ns part) (read.no end fault.TooDeep) ts (λ us a. none_listed end bytes ns below part us room) (refusal_at end bytes (List A) 0 0 (λ us. refused fault.TooDeep) ts (omega arith))
+        as_at end bytes 0 (read.listed end bytes ns part) (read.no end fault.TooDeep) ts (λ us a. none_listed end bytes ns below part us room) (refusal_at end bytes (List A) 0 0 (refused fault.TooDeep) ts (omega arith))
 
     columns_local : Local end bytes 0 (read.columns end bytes ns)
     unfolding read.columns
@@ -107,7 +107,7 @@ module _ (end : ℕ) (bytes : List ℕ) where
     unfolding query_or_joined
     query_or_joined_at true room ts =
         less_at end bytes 0 1 query_or_joined ts (omega arith) (test_at end bytes is_select 1 1 (read.derived_part end bytes ns) ns.froms ts (omega arith) (λ s. derived_at ts room) (λ s. below.froms room ts))
-    query_or_joined_at false room ts = as_at end bytes 0 query_or_joined (read.no end fault.TooDeep) ts (λ us a. by us (is_select (kind (drop 1 us)))) (refusal_at end bytes FromTree 0 0 (λ us. refused fault.TooDeep) ts (omega arith))
+    query_or_joined_at false room ts = as_at end bytes 0 query_or_joined (read.no end fault.TooDeep) ts (λ us a. by us (is_select (kind (drop 1 us)))) (refusal_at end bytes FromTree 0 0 (refused fault.TooDeep) ts (omega arith))
       where
         by : (us : Tokens) (b : Bool) → (if b then read.derived_part end bytes ns us else ns.froms us) ≡ Err (refused fault.TooDeep, place end us)
         by us true = no_derived us room
@@ -118,7 +118,7 @@ module _ (end : ℕ) (bytes : List ℕ) where
     primary_local ts =
         test_at end bytes is_name 0 0 (read.table_part end bytes) _ ts (omega arith) (λ s. table_local ts)
         (λ s. test_at end bytes is_open 0 0 query_or_joined (read.no end fault.Syntax) ts (omega arith)
-        (λ s. query_or_joined_at ns.room refl ts) (λ s. refusal_at end bytes FromTree 0 0 (λ us. refused fault.Syntax) ts (omega arith)))
+        (λ s. query_or_joined_at ns.room refl ts) (λ s. refusal_at end bytes FromTree 0 0 (refused fault.Syntax) ts (omega arith)))
 
     -- ---- joins
 
@@ -211,7 +211,7 @@ module _ (end : ℕ) (bytes : List ℕ) where
   pub local_below : (l : ℕ) → LocalBelow end bytes (read.nest end bytes l)
   unfolding read.nest
   local_below zero = record {
-    negs = λ ts. refusal_at end bytes CondTree 0 0 (λ us. refused fault.TooDeep) ts (omega arith);
+    negs = λ ts. refusal_at end bytes CondTree 0 0 (refused fault.TooDeep) ts (omega arith);
     conds = λ room ts. absurd cc;
     queries = λ room ts. absurd cc;
     froms = λ room ts. absurd cc;

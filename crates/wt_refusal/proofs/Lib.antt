@@ -10,3 +10,4 @@ pub mod BeginsParts
 pub mod BeginsConditions
 pub mod BeginsQueries
 pub mod BeginsStatements
+pub mod Ends

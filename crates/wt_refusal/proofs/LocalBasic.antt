@@ -1,26 +1,25 @@
 -- What begins with a parenthesis, or with an operand, is read by the tokens that it takes and the one behind them.
-use Rattle.std.proofs.Common.{◌≡◌, ℕ, suc, zero, ◌+◌, ◌≤◌, ◌<◌, ◌⊎◌, inl, inr, Bool, true, false, List, [], ◌∷◌, ◌++◌, length, drop, take, refl, ap, sym, ◌∙◌, arith, Ok, Err, subst, nat_lt}
+use Rattle.std.proofs.Common.{◌≡◌, ℕ, suc, ◌+◌, ◌≤◌, ◌<◌, ◌⊎◌, inl, inr, Bool, true, false, List, [], ◌∷◌, ◌++◌, length, drop, take, refl, ap, sym, ◌∙◌, arith, Ok, Err, subst, nat_lt}
 use Rattle.std.proofs.lemmas.Bool.{ltb-true, ltb-false}
 use Rattle.std.proofs.lemmas.List.{take-append-le}
 use Rattle.std.proofs.Math.Seq.{take-append_seam}
 use Rattle.std.specs.Prelude.{if◌then◌else◌, ◌&&◌, ◌||◌}
 use Rattle.wt_ast.specs.declared.tree.ColumnName.{ColumnName}
 use Rattle.wt_ast.specs.Tree.{CondTree, all_of, any_of}
-use Rattle.wt_grammar.specs.declared.lexeme.Lexeme.{Lexeme}
 use Rattle.wt_grammar.specs.declared.fault.QueryFault.TheVariants as fault
 use Rattle.wt_grammar.specs.Lexemes.{Tokens, kind, place, is_and, is_or, is_not, is_select, is_in, is_open, is_close, is_comma}
 use Rattle.wt_grammar.specs.Refusals.{syntax}
 use Rattle.wt_grammar.specs.Reading as read
 use Rattle.wt_grammar.specs.Reading.{Read, Refusal, Nest, refused, plus, followed, list, within, opens_tuple, in_follows}
-use Rattle.wt_sentence.specs.Grammar.{Column, Listed, Parens}
+use Rattle.wt_sentence.specs.Grammar.{Column, Listed}
 use Rattle.wt_sentence.proofs.Inversions.{held, chosen, ok_parts, followed_ok}
-use Rattle.wt_sentence.proofs.Took.{Took, list_sound, within_at, behind_front}
+use Rattle.wt_sentence.proofs.Took.{list_sound, within_at, behind_front}
 use Rattle.wt_sentence.proofs.SoundParts.{column_sound}
 use Rattle.wt_sentence.proofs.Tuples.{tuple_opens}
-use Rattle.wt_refusal.specs.Refused.{looked, IsNoTuple}
-use Rattle.wt_refusal.proofs.Local.{Agree, agree_front, agree_less, agree_behind, kind_front, some_looked, LocalAt, Local, Gives, too_deep, refuses, refuses_any, refusal_at, barred_at, less_at, deep_at, as_at, test_at, behind_at, then_at, same_value}
-use Rattle.wt_refusal.proofs.LocalParts.{run_local, by_place, column_local, operand_local, some_there}
-use Rattle.wt_refusal.proofs.LocalTuples.{Closes, ColumnCloses, tuple_column, column_first}
+use Rattle.wt_refusal.specs.Refused.{looked}
+use Rattle.wt_refusal.proofs.Local.{Agree, agree_front, agree_less, agree_behind, kind_front, LocalAt, Local, Gives, too_deep, refuses, refuses_any, refusal_at, barred_at, less_at, deep_at, as_at, test_at, behind_at, then_at, same_value}
+use Rattle.wt_refusal.proofs.LocalParts.{run_local, by_place, column_local, operand_local}
+use Rattle.wt_refusal.proofs.LocalTuples.{Closes, ColumnCloses, tuple_column}
 use Rattle.wt_refusal.proofs.LocalConditions.{LocalBelow, listed_at, none_listed, subquery_at, after_operand_local}
 
 module _ (end : ℕ) (bytes : List ℕ) (ns : Nest) (below : LocalBelow end bytes ns) where

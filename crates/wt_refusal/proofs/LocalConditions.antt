@@ -1,23 +1,21 @@
 -- Conditions are read by the tokens that they take and the one behind them.
-use Rattle.std.proofs.Common.{◌≡◌, ℕ, suc, zero, ◌+◌, ◌≤◌, ◌<◌, ◌⊎◌, inl, inr, Bool, true, false, List, [], ◌∷◌, ◌++◌, length, drop, take, refl, ap, sym, ◌∙◌, arith, Ok, Err, Option, Some, None, subst, drop-drop}
+use Rattle.std.proofs.Common.{◌≡◌, ℕ, ◌+◌, ◌≤◌, Bool, true, false, List, [], ◌∷◌, ◌++◌, drop, refl, ap, sym, ◌∙◌, arith, Ok, Err, Option, Some, None, drop-drop}
 use Rattle.std.specs.Prelude.{if◌then◌else◌, ◌&&◌}
 use Rattle.wt_ast.specs.declared.tree.ColumnName.{ColumnName}
 use Rattle.wt_ast.specs.declared.tree.CmpWord.{CmpWord}
 use Rattle.wt_ast.specs.declared.tree.Scalar.{Scalar}
 use Rattle.wt_ast.specs.declared.tree.Scalar.TheVariants as scalar
-use Rattle.wt_ast.specs.Tree.{CondTree, compare, is_null, is_not_null, in_list, in_query, negated, all_of, any_of}
-use Rattle.wt_grammar.specs.declared.lexeme.Kind.{Kind}
+use Rattle.wt_ast.specs.Tree.{CondTree, compare, is_null, is_not_null, in_list, in_query, negated}
 use Rattle.wt_grammar.specs.declared.lexeme.Lexeme.{Lexeme}
 use Rattle.wt_grammar.specs.declared.fault.QueryFault.TheVariants as fault
-use Rattle.wt_grammar.specs.Lexemes.{Tokens, kind, place, is_and, is_or, is_not, is_select, is_between, is_is, is_in, is_null_word, is_open, is_close, is_comma}
+use Rattle.wt_grammar.specs.Lexemes.{Tokens, kind, place, is_and, is_not, is_select, is_between, is_is, is_in, is_null_word, is_open}
 use Rattle.wt_grammar.specs.Refusals.{syntax, no_negated}
 use Rattle.wt_grammar.specs.Reading as read
 use Rattle.wt_grammar.specs.Reading.{Read, Refusal, Nest, refused, plus, followed, list, within, expect, cmp_of, between_of, of_column, opens_tuple}
 use Rattle.wt_sentence.specs.Grammar.{Column}
 use Rattle.wt_sentence.proofs.Follows.{in_is}
-use Rattle.wt_refusal.specs.Refused.{looked}
-use Rattle.wt_refusal.proofs.Local.{Agree, agree_front, kind_front, some_looked, LocalAt, Local, value_at, refusal_at, barred_at, less_at, as_at, seen_at, test_at, behind_at, then_at, last_at, refuses}
-use Rattle.wt_refusal.proofs.LocalParts.{list_at, run_local, by_kind, expect_local, closed_at, by_place, column_local, operand_local, literal_local}
+use Rattle.wt_refusal.proofs.Local.{Agree, agree_front, kind_front, LocalAt, Local, refusal_at, barred_at, less_at, as_at, seen_at, test_at, behind_at, then_at, last_at, refuses}
+use Rattle.wt_refusal.proofs.LocalParts.{list_at, by_kind, expect_local, closed_at, by_place, operand_local, literal_local}
 use Rattle.wt_refusal.proofs.LocalTuples.{Closes}
 
 pub both : (a b : Bool) → (a && b) ≡ true → (a ≡ true) × (b ≡ true)

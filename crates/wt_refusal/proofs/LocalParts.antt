@@ -1,5 +1,5 @@
 -- Names, columns, literals, operands, items and lists are read by the tokens that they take and the one behind them.
-use Rattle.std.proofs.Common.{◌≡◌, ℕ, suc, zero, ◌+◌, ◌≤◌, ◌<◌, ◌^◌, Bool, true, false, List, [], ◌∷◌, length, drop, take, refl, ap, sym, ◌∙◌, arith, Ok, Err, Option, Some, None, nat_lt, length-drop}
+use Rattle.std.proofs.Common.{◌≡◌, ℕ, suc, zero, ◌+◌, ◌≤◌, ◌<◌, ◌^◌, Bool, true, false, List, [], ◌∷◌, length, drop, refl, ap, ◌∙◌, arith, Ok, Err, Option, Some, None, nat_lt, length-drop}
 use Rattle.std.specs.Prelude.{if◌then◌else◌, ◌&&◌, pos, neg_ℤ}
 use Rattle.wt_value.specs.declared.value.Value.{Value}
 use Rattle.wt_value.specs.declared.value.Value.TheVariants as value
@@ -8,7 +8,6 @@ use Rattle.wt_lex.specs.declared.token.Sym.TheVariants as sym
 use Rattle.wt_ast.specs.declared.tree.ColumnName.{ColumnName}
 use Rattle.wt_ast.specs.declared.tree.Item.{Item}
 use Rattle.wt_ast.specs.declared.tree.Item.TheVariants as items
-use Rattle.wt_ast.specs.declared.tree.Scalar.{Scalar}
 use Rattle.wt_ast.specs.declared.tree.Scalar.TheVariants as scalar
 use Rattle.wt_ast.specs.Tree.{CondTree, CondTrees}
 use Rattle.wt_grammar.specs.declared.lexeme.Kind.{Kind}
@@ -21,7 +20,7 @@ use Rattle.wt_grammar.specs.Refusals.{beyond, no_operand, no_literal, no_item}
 use Rattle.wt_grammar.specs.Reading as read
 use Rattle.wt_grammar.specs.Reading.{Read, Refusal, refused, odd, plus, followed, taken, joined_to, more, list, run, one_or, expect, ended, ended_by, within, name_at, text_at, name_only}
 use Rattle.wt_sentence.proofs.Inversions.{skip}
-use Rattle.wt_refusal.proofs.Local.{Agree, AtFront, kind_front, place_front, some_looked, agree_front, LocalAt, Local, too_deep, value_at, refusal_at, table_at, less_at, as_at, seen_at, test_at, behind_at, then_at, last_at}
+use Rattle.wt_refusal.proofs.Local.{AtFront, kind_front, place_front, some_looked, agree_front, LocalAt, Local, too_deep, value_at, refusal_at, table_at, less_at, as_at, seen_at, test_at, behind_at, then_at, last_at}
 
 -- a separator, the part behind it, and more
 abbrev turn : {A : Type 0} → (Kind → Bool) → (Tokens → Read A) → Tokens → Read (List A)

@@ -1,9 +1,8 @@
 -- FROM, queries and all levels are read by the tokens that they take and the one behind them.
-use Rattle.std.proofs.Common.{◌≡◌, ℕ, suc, zero, ◌+◌, ◌-◌, ◌≤◌, ◌<◌, Bool, true, false, List, [], ◌∷◌, ◌++◌, length, drop, refl, ap, sym, ◌∙◌, arith, append_assoc, append-nil, Ok, Err, Option, Some, None, subst, length-drop}
+use Rattle.std.proofs.Common.{◌≡◌, ℕ, suc, zero, ◌-◌, ◌≤◌, ◌<◌, Bool, true, false, List, [], ◌∷◌, ◌++◌, length, drop, refl, ap, sym, ◌∙◌, arith, append_assoc, append-nil, Ok, Err, Some, None, length-drop}
 use Rattle.std.specs.Prelude.{if◌then◌else◌}
 use Rattle.wt_ast.specs.declared.tree.ColumnName.{ColumnName}
-use Rattle.wt_ast.specs.declared.tree.Item.{Item}
-use Rattle.wt_ast.specs.Tree.{QueryTree, FilterTree, FromTree, CondTree, select, no_filter, filter_by, table, derived, negated, is_null}
+use Rattle.wt_ast.specs.Tree.{FromTree, CondTree, select, no_filter, filter_by, table, derived, negated, is_null}
 use Rattle.wt_grammar.specs.declared.lexeme.Kind.TheVariants.{Key, Mark}
 use Rattle.wt_grammar.specs.declared.lexeme.Word.TheVariants as word
 use Rattle.wt_lex.specs.declared.token.Sym.TheVariants as sym
@@ -11,16 +10,15 @@ use Rattle.wt_grammar.specs.declared.lexeme.Lexeme.{Lexeme}
 use Rattle.wt_grammar.specs.declared.lexeme.JoinKind.{JoinKind}
 use Rattle.wt_grammar.specs.declared.lexeme.JoinKind.TheVariants as joining
 use Rattle.wt_grammar.specs.declared.fault.QueryFault.TheVariants as fault
-use Rattle.wt_grammar.specs.Lexemes.{Tokens, kind, place, is_select, is_distinct, is_all, is_from, is_where, is_as, is_inner, is_outer, is_join, is_on, is_open, is_close, is_name, begins_join}
+use Rattle.wt_grammar.specs.Lexemes.{Tokens, kind, place, is_select, is_distinct, is_all, is_from, is_where, is_as, is_inner, is_outer, is_join, is_on, is_open, is_name, begins_join}
 use Rattle.wt_grammar.specs.Refusals.{syntax, no_join}
 use Rattle.wt_grammar.specs.Reading as read
 use Rattle.wt_grammar.specs.Reading.{Read, Nest, refused, plus, followed, list, taken, made, chain, expect, within, join_of, name_at, name_only, place_or, no_query_end}
 use Rattle.wt_sentence.specs.Grammar.{Column, deeper}
-use Rattle.wt_sentence.specs.Grammar as spec
 use Rattle.wt_sentence.proofs.Complete.{complete_below}
-use Rattle.wt_refusal.proofs.Local.{LocalAt, Local, Gives, value_at, refusal_at, barred_at, less_at, takes_at, as_at, test_at, behind_at, then_at, last_at}
+use Rattle.wt_refusal.proofs.Local.{LocalAt, Local, Gives, value_at, refusal_at, less_at, takes_at, as_at, test_at, behind_at, then_at, last_at}
 use Rattle.wt_refusal.proofs.LocalParts.{some_there, list_at, expect_local, closed_at, by_place, by_name, name_local, alias_local, item_local}
-use Rattle.wt_refusal.proofs.LocalTuples.{Closes, column_first, no_condition, null_condition}
+use Rattle.wt_refusal.proofs.LocalTuples.{column_first, no_condition, null_condition}
 use Rattle.wt_refusal.proofs.LocalConditions.{LocalBelow, listed_at, none_listed}
 use Rattle.wt_refusal.proofs.LocalBasic.{neg_local, cond_local}
 

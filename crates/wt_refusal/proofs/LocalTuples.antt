@@ -1,18 +1,18 @@
 -- Columns in parentheses: where they open a tuple, and that they are no condition.
-use Rattle.std.proofs.Common.{◌≡◌, ℕ, ◌+◌, ◌⊎◌, inl, inr, Bool, true, false, List, [], ◌∷◌, ◌++◌, length, drop, refl, ap, sym, ◌∙◌, arith, append-nil, Ok, Err, Option, Some, None, subst, drop-drop}
+use Rattle.std.proofs.Common.{◌≡◌, ℕ, ◌⊎◌, inl, inr, Bool, true, false, List, [], ◌∷◌, ◌++◌, length, drop, refl, ap, sym, ◌∙◌, append-nil, Ok, Err, Some, None, subst, drop-drop}
 use Rattle.std.specs.Prelude.{◌&&◌}
 use Rattle.wt_lex.specs.declared.token.Sym.TheVariants as sym
 use Rattle.wt_ast.specs.declared.tree.ColumnName.{ColumnName}
 use Rattle.wt_ast.specs.declared.tree.Scalar.{Scalar}
 use Rattle.wt_ast.specs.declared.tree.Scalar.TheVariants as scalar
-use Rattle.wt_ast.specs.Tree.{CondTree, is_null}
+use Rattle.wt_ast.specs.Tree.{is_null}
 use Rattle.wt_grammar.specs.declared.lexeme.Kind.{Kind}
 use Rattle.wt_grammar.specs.declared.lexeme.Kind.TheVariants.{Name, Mark}
 use Rattle.wt_grammar.specs.declared.lexeme.Lexeme.{Lexeme}
 use Rattle.wt_grammar.specs.declared.lexeme.Stage.{Stage}
 use Rattle.wt_grammar.specs.declared.lexeme.Stage.TheVariants as stage
 use Rattle.wt_grammar.specs.declared.fault.QueryFault.TheVariants as fault
-use Rattle.wt_grammar.specs.Lexemes.{Tokens, kind, place, is_and, is_or, is_not, is_between, is_is, is_in, is_name, is_open, is_close, is_comma, is_dot, is_null_word}
+use Rattle.wt_grammar.specs.Lexemes.{Tokens, kind, place, is_is, is_name, is_open, is_close, is_comma, is_dot, is_null_word}
 use Rattle.wt_grammar.specs.Reading as read
 use Rattle.wt_grammar.specs.Reading.{Read, refused, Nest, plus, followed, run, next_stage, ends_column, in_follows, is_tuple, name_at, cmp_of}
 use Rattle.wt_sentence.specs.Grammar.{Column, Deeper}

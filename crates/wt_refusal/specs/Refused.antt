@@ -1,12 +1,11 @@
 -- Where a refusal stands: behind tokens with which a sentence begins, at the first token with which none goes on.
-use Rattle.std.specs.Prelude.{◌≡◌, ℕ, ◌≤◌, true, ◌⊎◌, List, [], ◌∷◌, ◌++◌, take}
+use Rattle.std.specs.Prelude.{◌≡◌, ℕ, ◌≤◌, true, ◌⊎◌, List, ◌∷◌, ◌++◌, take}
 use Rattle.wt_ast.specs.declared.tree.ColumnName.{ColumnName}
 use Rattle.wt_ast.specs.Tree.{QueryTree}
-use Rattle.wt_grammar.specs.declared.fault.QueryFault.{QueryFault}
 use Rattle.wt_grammar.specs.declared.fault.QueryFault.TheVariants as fault
 use Rattle.wt_grammar.specs.declared.lexeme.Lexeme.{Lexeme}
 use Rattle.wt_grammar.specs.Lexemes.{Tokens, kind, place, is_select, is_open, is_close, is_comma}
-use Rattle.wt_grammar.specs.Reading.{Refusal, refused, odd}
+use Rattle.wt_grammar.specs.Reading.{Refusal, refused}
 use Rattle.wt_sentence.specs.Grammar.{Seq, Is, Column, Body, deeper}
 
 -- How many tokens show a refusal: one, but `-` and what is no number, `(` and SELECT, and NOT IN `(` SELECT.

@@ -1,6 +1,5 @@
 -- The tokens before a refusal begin a sentence of a part: readings put together.
-use Rattle.std.proofs.Common.{◌≡◌, ℕ, suc, zero, ◌+◌, ◌⊎◌, inl, inr, Bool, true, false, List, [], ◌∷◌, ◌++◌, drop, refl, ap, sym, ◌∙◌, append_assoc, append-nil, Ok, Err, subst}
-use Rattle.std.specs.Prelude.{if◌then◌else◌}
+use Rattle.std.proofs.Common.{◌≡◌, ℕ, suc, zero, ◌⊎◌, inl, inr, Bool, true, false, List, [], ◌∷◌, ◌++◌, drop, refl, ap, sym, ◌∙◌, append_assoc, append-nil, Ok, Err, subst}
 use Rattle.wt_ast.specs.Tree.{CondTree, CondTrees}
 use Rattle.wt_lex.specs.declared.token.TokenKind.TheVariants as kinds
 use Rattle.wt_grammar.specs.declared.lexeme.Kind.{Kind}
@@ -9,7 +8,7 @@ use Rattle.wt_lex.specs.declared.token.Sym.TheVariants as sym
 use Rattle.wt_grammar.specs.declared.lexeme.Lexeme.{Lexeme}
 use Rattle.wt_grammar.specs.declared.fault.QueryFault.{QueryFault}
 use Rattle.wt_grammar.specs.Lexemes.{Tokens, kind, place, is_open, is_close, is_comma}
-use Rattle.wt_grammar.specs.Reading.{Read, Refusal, refused, plus, followed, taken, joined_to, more, list, run, expect, within, no, one_or}
+use Rattle.wt_grammar.specs.Reading.{Read, Refusal, refused, plus, followed, taken, joined_to, more, list, run, expect, within, one_or}
 use Rattle.wt_sentence.specs.Grammar.{Seq, Is, Behind, Listed, Parens, Run}
 use Rattle.wt_sentence.proofs.Inversions.{chosen}
 use Rattle.wt_sentence.proofs.Took.{Took, Sound, behind_front, took_is, expected}
@@ -94,10 +93,6 @@ module _ (end : ℕ) where
   -- refused behind a part that is read
   pub begins_behind : (P : Tokens → Type 0) (ts : Tokens) (n at : ℕ) → at ≡ place end (drop n ts) → Took P ts n → Begins end P ts at
   begins_behind P ts n at h (a, b, e, l, p) = (a, b, e, h ∙ ap (place end) (behind_front ts a b n e l), [], subst P (sym (append-nil a)) p)
-
-  -- refused in the first of two parts
-  pub begins_first : (P Q : Tokens → Type 0) (ts : Tokens) (at : ℕ) → Ending Q → Begins end P ts at → Begins end (Seq P Q) ts at
-  begins_first P Q ts at (l, q) (a, b, e, f, more, p) = (a, b, e, f, more ++ l, (a ++ more, l, sym (append_assoc a more l), p, q))
 
   -- refused in the second of two parts
   pub begins_then : (P Q : Tokens → Type 0) (ts : Tokens) (n at : ℕ) → Took P ts n → Begins end Q (drop n ts) at → Begins end (Seq P Q) ts at

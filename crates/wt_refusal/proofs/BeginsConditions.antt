@@ -1,19 +1,18 @@
 -- The tokens before a refusal begin a sentence: conditions.
-use Rattle.std.proofs.Common.{◌≡◌, ℕ, ◌⊎◌, inl, inr, Bool, true, false, List, [], ◌∷◌, ◌++◌, drop, refl, ap, sym, ◌∙◌, Ok, Err, Option, Some, None, subst}
-use Rattle.std.specs.Prelude.{◌&&◌, if◌then◌else◌}
-use Rattle.wt_value.specs.declared.value.Value.{Value}
+use Rattle.std.proofs.Common.{◌≡◌, ℕ, ◌⊎◌, inl, inr, true, List, [], ◌∷◌, ◌++◌, drop, refl, ap, sym, ◌∙◌, Ok, Err, Option, Some, None}
+use Rattle.std.specs.Prelude.{◌&&◌}
 use Rattle.wt_lex.specs.declared.token.Sym.TheVariants as sym
 use Rattle.wt_ast.specs.declared.tree.ColumnName.{ColumnName}
 use Rattle.wt_ast.specs.declared.tree.CmpWord.{CmpWord}
 use Rattle.wt_ast.specs.declared.tree.CmpWord.TheVariants as cmp
 use Rattle.wt_ast.specs.declared.tree.Scalar.{Scalar}
 use Rattle.wt_ast.specs.declared.tree.Scalar.TheVariants as scalar
-use Rattle.wt_ast.specs.Tree.{QueryTree, FromTree, CondTree, compare, is_null, is_not_null, in_list, in_query, all_of, any_of, negated}
+use Rattle.wt_ast.specs.Tree.{CondTree, compare, is_null, is_not_null, in_list, in_query, all_of, any_of, negated}
 use Rattle.wt_grammar.specs.declared.lexeme.Kind.TheVariants.{Key, Mark}
 use Rattle.wt_grammar.specs.declared.lexeme.Word.TheVariants as words
 use Rattle.wt_grammar.specs.declared.lexeme.Lexeme.{Lexeme}
 use Rattle.wt_grammar.specs.declared.fault.QueryFault.TheVariants as fault
-use Rattle.wt_grammar.specs.Lexemes.{Tokens, kind, place, is_and, is_or, is_not, is_select, is_between, is_is, is_null_word, is_in, is_open, is_close}
+use Rattle.wt_grammar.specs.Lexemes.{Tokens, kind, place, is_and, is_or, is_not, is_select, is_between, is_is, is_null_word, is_in, is_open}
 use Rattle.wt_grammar.specs.Refusals.{syntax, no_negated}
 use Rattle.wt_grammar.specs.Reading as read
 use Rattle.wt_grammar.specs.Reading.{Read, Refusal, refused, Nest, plus, followed, expect, cmp_of, between_of, opens_tuple}
@@ -23,7 +22,7 @@ use Rattle.wt_sentence.proofs.Inversions.{chosen}
 use Rattle.wt_sentence.proofs.Took.{Took, Sound, took_is, list_sound}
 use Rattle.wt_sentence.proofs.SoundParts.{column_sound, operand_sound, literal_sound}
 use Rattle.wt_sentence.proofs.SoundQueries.{SoundBelow, listed_sound, neg_sound, conj_sound}
-use Rattle.wt_refusal.proofs.Begins.{Any, Ending, Begins, Viable, token_of, a_token, then_ending, as_ending, listed_one, run_one, ok_no_err, plus_err, last_err, err_parts, begins_here, begins_at_front, begins_then, begins_as, begins_followed, begins_expect, begins_expected, begins_within, begins_list, begins_run}
+use Rattle.wt_refusal.proofs.Begins.{Any, Ending, Begins, Viable, token_of, a_token, then_ending, as_ending, listed_one, run_one, plus_err, last_err, err_parts, begins_at_front, begins_then, begins_as, begins_followed, begins_expect, begins_expected, begins_within, begins_list, begins_run}
 use Rattle.wt_refusal.proofs.BeginsParts.{a_column, an_operand, a_literal, column_begins, operand_begins, literal_begins}
 
 -- Wherever what stands one level deeper refuses, the tokens before it begin a sentence one level deeper.

@@ -1,5 +1,5 @@
 -- The tokens before a refusal begin a sentence: names, columns, literals, operands, items. What ends them is short.
-use Rattle.std.proofs.Common.{◌≡◌, ℕ, ◌+◌, ◌^◌, ◌≤◌, ◌⊎◌, inl, inr, Bool, true, false, List, [], ◌∷◌, ◌++◌, drop, refl, ap, sym, ◌∙◌, arith, append-nil, Ok, Err, Option, Some, None, nat_lt, subst}
+use Rattle.std.proofs.Common.{◌≡◌, ℕ, ◌^◌, ◌⊎◌, inl, inr, List, [], ◌∷◌, drop, refl, sym, arith, append-nil, Ok, Err, Option, Some, None, nat_lt, subst}
 use Rattle.std.specs.Prelude.{◌&&◌, pos, neg_ℤ}
 use Rattle.wt_value.specs.declared.value.Value.{Value}
 use Rattle.wt_value.specs.declared.value.Value.TheVariants as value
@@ -7,11 +7,9 @@ use Rattle.wt_lex.specs.declared.token.Sym.TheVariants as sym
 use Rattle.wt_lex.specs.declared.token.LexFault.TheVariants.{NumberRange}
 use Rattle.wt_ast.specs.declared.tree.ColumnName.{ColumnName}
 use Rattle.wt_ast.specs.declared.tree.Item.TheVariants as items
-use Rattle.wt_ast.specs.declared.tree.Scalar.{Scalar}
 use Rattle.wt_ast.specs.declared.tree.Scalar.TheVariants as scalar
 use Rattle.wt_grammar.specs.declared.lexeme.Kind.{Kind}
 use Rattle.wt_grammar.specs.declared.lexeme.Kind.TheVariants.{Name, Number, Text, Mark}
-use Rattle.wt_grammar.specs.declared.lexeme.Lexeme.{Lexeme}
 use Rattle.wt_grammar.specs.declared.fault.QueryFault.{QueryFault}
 use Rattle.wt_grammar.specs.declared.fault.QueryFault.TheVariants as fault
 use Rattle.wt_grammar.specs.Lexemes.{Tokens, kind, place, is_name, is_open, is_dot, is_star, is_as}
@@ -20,7 +18,7 @@ use Rattle.wt_grammar.specs.Reading.{Read, Refusal, refused, odd, followed, name
 use Rattle.wt_sentence.specs.Grammar.{Seq, One, Is, Column, AnyLiteral, Operand, Alias, IsItem}
 use Rattle.wt_sentence.specs.Grammar as spec
 use Rattle.wt_sentence.proofs.Inversions.{chosen}
-use Rattle.wt_sentence.proofs.Took.{Took, Sound, took_as, took_is}
+use Rattle.wt_sentence.proofs.Took.{Sound, took_as, took_is}
 use Rattle.wt_sentence.proofs.SoundParts.{named, column_sound, operand_by_sound, front_sound}
 use Rattle.wt_refusal.proofs.Begins.{Any, Ending, Begins, Viable, token_of, as_ending, ok_no_err, plus_err, followed_err, last_err, err_parts, begins_here, begins_at_front, begins_behind, begins_then, begins_as, begins_followed}
 

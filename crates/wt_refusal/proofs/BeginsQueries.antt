@@ -1,8 +1,7 @@
 -- The tokens before a refusal begin a sentence: FROM and queries.
 use Rattle.std.proofs.Common.{◌≡◌, ℕ, suc, zero, ◌-◌, ◌≤◌, ◌⊎◌, inl, inr, Bool, true, false, List, [], ◌∷◌, ◌++◌, drop, refl, ap, sym, ◌∙◌, arith, append-nil, Ok, Err, Some, None, subst}
-use Rattle.std.specs.Prelude.{if◌then◌else◌}
 use Rattle.wt_ast.specs.declared.tree.Item.{Item}
-use Rattle.wt_ast.specs.Tree.{QueryTree, FilterTree, FromTree, CondTree, select, no_filter, filter_by, table, derived}
+use Rattle.wt_ast.specs.Tree.{QueryTree, FromTree, select, no_filter, filter_by, table, derived}
 use Rattle.wt_grammar.specs.declared.lexeme.Kind.TheVariants.{Key}
 use Rattle.wt_grammar.specs.declared.lexeme.Word.TheVariants as words
 use Rattle.wt_grammar.specs.declared.lexeme.JoinKind.{JoinKind}
@@ -15,11 +14,11 @@ use Rattle.wt_grammar.specs.Reading.{Read, Refusal, refused, Nest, plus, followe
 use Rattle.wt_sentence.specs.Grammar.{Seq, Is, Listed, Named, Alias, IsItem, Deeper}
 use Rattle.wt_sentence.specs.Grammar as spec
 use Rattle.wt_sentence.proofs.Inversions.{chosen}
-use Rattle.wt_sentence.proofs.Took.{Took, took_is, list_sound}
+use Rattle.wt_sentence.proofs.Took.{took_is, list_sound}
 use Rattle.wt_sentence.proofs.Follows.{left_begins}
 use Rattle.wt_sentence.proofs.SoundParts.{any_name_sound, item_sound}
 use Rattle.wt_sentence.proofs.SoundQueries.{SoundBelow, derived_name_sound, primary_sound, words_sound, join_sound, join_some, joined_sound, quantifier_sound}
-use Rattle.wt_refusal.proofs.Begins.{Any, Ending, Begins, Viable, token_of, a_token, then_ending, as_ending, listed_one, ok_no_err, plus_err, last_err, begins_at_front, begins_first, begins_then, begins_as, begins_followed, begins_expect, begins_expected, begins_list}
+use Rattle.wt_refusal.proofs.Begins.{Any, Ending, Begins, Viable, a_token, then_ending, as_ending, listed_one, ok_no_err, plus_err, last_err, begins_at_front, begins_then, begins_as, begins_followed, begins_expect, begins_expected, begins_list}
 use Rattle.wt_refusal.proofs.BeginsParts.{a_name, no_alias, an_item, name_begins, alias_begins, item_begins}
 use Rattle.wt_refusal.proofs.BeginsConditions.{BeginsBelow, a_cond, listed_begins, cond_begins}
 

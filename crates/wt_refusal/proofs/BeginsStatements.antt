@@ -1,11 +1,11 @@
 -- The tokens before a refusal begin a sentence: all levels, and whole statements.
-use Rattle.std.proofs.Common.{◌≡◌, ℕ, suc, zero, ◌≤◌, ◌⊎◌, inl, inr, true, false, List, [], drop, refl, ap, sym, ◌∙◌, arith, Ok, Err, subst}
+use Rattle.std.proofs.Common.{◌≡◌, ℕ, suc, zero, ◌⊎◌, inl, inr, true, List, drop, refl, sym, ◌∙◌, arith, Ok, Err}
 use Rattle.std.specs.Prelude.{if◌then◌else◌}
-use Rattle.wt_ast.specs.Tree.{QueryTree, CondTree, FromTree, negated}
+use Rattle.wt_ast.specs.Tree.{QueryTree, CondTree, negated}
 use Rattle.wt_grammar.specs.declared.fault.QueryFault.TheVariants as fault
 use Rattle.wt_grammar.specs.declared.lexeme.Kind.TheVariants.{Key}
 use Rattle.wt_grammar.specs.declared.lexeme.Word.TheVariants as words
-use Rattle.wt_grammar.specs.Lexemes.{Tokens, kind, place, is_not, is_select, is_open, is_end}
+use Rattle.wt_grammar.specs.Lexemes.{Tokens, kind, place, is_not, is_select, is_end}
 use Rattle.wt_grammar.specs.Refusals.{syntax, no_join, no_statement}
 use Rattle.wt_grammar.specs.Reading as read
 use Rattle.wt_grammar.specs.Reading.{Read, Refusal, refused, Nest, plus, no_query_end}

@@ -1,5 +1,5 @@
 -- With more levels a reading answers the same, unless it is refused for want of a level.
-use Rattle.std.proofs.Common.{◌≡◌, ℕ, suc, zero, ◌+◌, ◌-◌, ◌≤◌, ◌⊎◌, inl, inr, Bool, true, false, List, [], ◌∷◌, drop, refl, ap, sym, ◌∙◌, arith, Ok, Err, Some, None, subst}
+use Rattle.std.proofs.Common.{◌≡◌, ℕ, suc, zero, ◌+◌, ◌-◌, ◌≤◌, ◌⊎◌, inl, inr, Bool, true, false, List, [], ◌∷◌, drop, refl, ap, sym, arith, Ok, Err, Some, subst}
 use Rattle.std.specs.Prelude.{if◌then◌else◌}
 use Rattle.wt_ast.specs.declared.tree.ColumnName.{ColumnName}
 use Rattle.wt_ast.specs.declared.tree.Scalar.{Scalar}
@@ -62,12 +62,6 @@ module _ {A : Type 0} (sep : Kind → Bool) (part part' : Tokens → Read A) (sa
       steady_next r s f g (inl (at, e)) h = inl (at, ap (λ z. joined_to z (f (taken z))) e)
       steady_next r s f g (inr e) h =
           subst (λ z. Steady (joined_to r (f (taken r))) (joined_to z (g (taken z)))) (sym e) (steady_joined_to r r (f (taken r)) (g (taken r)) (inr refl) (h (taken r)))
-
-pub steady_list : {A : Type 0} (part part' : Tokens → Read A) → ((ts : Tokens) → Steady (part ts) (part' ts)) → (ts : Tokens) → Steady (list part ts) (list part' ts)
-unfolding list
-steady_list part part' same ts =
-    steady_followed ts (part ts) (part' ts) (λ x rest. followed rest (more is_comma part 0 rest) (λ xs r. Ok (x ∷ xs, 0))) (λ x rest. followed rest (more is_comma part' 0 rest) (λ xs r. Ok (x ∷ xs, 0)))
-    (same ts) (λ x l. steady_last l (more is_comma part 0 l) (more is_comma part' 0 l) (λ xs. x ∷ xs) (steady_more is_comma part part' same 0 l))
 
 pub steady_within : {A : Type 0} (end : ℕ) (part part' : Tokens → Read A) → ((ts : Tokens) → Steady (part ts) (part' ts)) → (other : A → Kind → QueryFault) (ts : Tokens)
     → Steady (read.within end part other ts) (read.within end part' other ts)

@@ -9,7 +9,7 @@ use Rattle.wt_ast.specs.Tree as tree
 use Rattle.wt_grammar.specs.declared.lexeme.Kind.{Kind}
 use Rattle.wt_grammar.specs.declared.fault.QueryFault.{QueryFault}
 use Rattle.wt_grammar.specs.declared.fault.QueryFault.TheVariants as fault
-use Rattle.wt_grammar.specs.Lexemes.{Tokens, kind, place, is_and, is_or, is_not, is_select, is_where, is_between, is_is, is_in, is_name, is_open, is_close, is_comma, is_on, is_from, is_end, begins_join}
+use Rattle.wt_grammar.specs.Lexemes.{Tokens, kind, place, is_and, is_or, is_not, is_select, is_where, is_between, is_is, is_in, is_name, is_open, is_close, is_on, is_from, is_end, begins_join}
 use Rattle.wt_grammar.specs.Refusals.{syntax, no_join, no_statement}
 use Rattle.wt_grammar.specs.Reading.{Read, refused, plus, followed, taken, joined_to, more, list, run, chain, made, expect, no, of_column, join_of, no_query_end, Nest}
 use Rattle.wt_grammar.specs.Reading as read

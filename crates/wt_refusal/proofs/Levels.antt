@@ -4,7 +4,7 @@ use Rattle.std.specs.Prelude.{if◌then◌else◌}
 use Rattle.wt_ast.specs.declared.tree.ColumnName.{ColumnName}
 use Rattle.wt_ast.specs.declared.tree.Scalar.{Scalar}
 use Rattle.wt_ast.specs.declared.tree.Scalar.TheVariants as scalar
-use Rattle.wt_ast.specs.Tree.{QueryTree, FilterTree, FromTree, CondTree, CondTrees, select, no_filter, filter_by, derived, in_list, in_query, negated}
+use Rattle.wt_ast.specs.Tree.{QueryTree, FromTree, CondTree, CondTrees, select, filter_by, derived, in_list, in_query, negated}
 use Rattle.wt_ast.specs.Tree as tree
 use Rattle.wt_grammar.specs.declared.lexeme.Kind.{Kind}
 use Rattle.wt_grammar.specs.declared.fault.QueryFault.{QueryFault}

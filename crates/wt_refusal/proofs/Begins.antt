@@ -94,10 +94,6 @@ module _ (end : ℕ) where
   pub begins_behind : (P : Tokens → Type 0) (ts : Tokens) (n at : ℕ) → at ≡ place end (drop n ts) → Took P ts n → Begins end P ts at
   begins_behind P ts n at h (a, b, e, l, p) = (a, b, e, h ∙ ap (place end) (behind_front ts a b n e l), [], subst P (sym (append-nil a)) p)
 
-  -- refused in the first of two parts
-  pub begins_first : (P Q : Tokens → Type 0) (ts : Tokens) (at : ℕ) → Ending Q → Begins end P ts at → Begins end (Seq P Q) ts at
-  begins_first P Q ts at (l, q) (a, b, e, f, more, p) = (a, b, e, f, more ++ l, (a ++ more, l, sym (append_assoc a more l), p, q))
-
   -- refused in the second of two parts
   pub begins_then : (P Q : Tokens → Type 0) (ts : Tokens) (n at : ℕ) → Took P ts n → Begins end Q (drop n ts) at → Begins end (Seq P Q) ts at
   begins_then P Q ts n at (a, b, e, l, p) (a', b', e', f, more, q) =

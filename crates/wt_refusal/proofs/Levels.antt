@@ -4,12 +4,12 @@ use Rattle.std.specs.Prelude.{if◌then◌else◌}
 use Rattle.wt_ast.specs.declared.tree.ColumnName.{ColumnName}
 use Rattle.wt_ast.specs.declared.tree.Scalar.{Scalar}
 use Rattle.wt_ast.specs.declared.tree.Scalar.TheVariants as scalar
-use Rattle.wt_ast.specs.Tree.{QueryTree, FilterTree, FromTree, CondTree, CondTrees, select, no_filter, filter_by, derived, in_list, in_query, negated}
+use Rattle.wt_ast.specs.Tree.{QueryTree, FromTree, CondTree, CondTrees, select, filter_by, derived, in_list, in_query, negated}
 use Rattle.wt_ast.specs.Tree as tree
 use Rattle.wt_grammar.specs.declared.lexeme.Kind.{Kind}
 use Rattle.wt_grammar.specs.declared.fault.QueryFault.{QueryFault}
 use Rattle.wt_grammar.specs.declared.fault.QueryFault.TheVariants as fault
-use Rattle.wt_grammar.specs.Lexemes.{Tokens, kind, place, is_and, is_or, is_not, is_select, is_where, is_between, is_is, is_in, is_name, is_open, is_close, is_comma, is_on, is_from, is_end, begins_join}
+use Rattle.wt_grammar.specs.Lexemes.{Tokens, kind, place, is_and, is_or, is_not, is_select, is_where, is_between, is_is, is_in, is_name, is_open, is_close, is_on, is_from, is_end, begins_join}
 use Rattle.wt_grammar.specs.Refusals.{syntax, no_join, no_statement}
 use Rattle.wt_grammar.specs.Reading.{Read, refused, plus, followed, taken, joined_to, more, list, run, chain, made, expect, no, of_column, join_of, no_query_end, Nest}
 use Rattle.wt_grammar.specs.Reading as read
@@ -62,12 +62,6 @@ module _ {A : Type 0} (sep : Kind → Bool) (part part' : Tokens → Read A) (sa
       steady_next r s f g (inl (at, e)) h = inl (at, ap (λ z. joined_to z (f (taken z))) e)
       steady_next r s f g (inr e) h =
           subst (λ z. Steady (joined_to r (f (taken r))) (joined_to z (g (taken z)))) (sym e) (steady_joined_to r r (f (taken r)) (g (taken r)) (inr refl) (h (taken r)))
-
-pub steady_list : {A : Type 0} (part part' : Tokens → Read A) → ((ts : Tokens) → Steady (part ts) (part' ts)) → (ts : Tokens) → Steady (list part ts) (list part' ts)
-unfolding list
-steady_list part part' same ts =
-    steady_followed ts (part ts) (part' ts) (λ x rest. followed rest (more is_comma part 0 rest) (λ xs r. Ok (x ∷ xs, 0))) (λ x rest. followed rest (more is_comma part' 0 rest) (λ xs r. Ok (x ∷ xs, 0)))
-    (same ts) (λ x l. steady_last l (more is_comma part 0 l) (more is_comma part' 0 l) (λ xs. x ∷ xs) (steady_more is_comma part part' same 0 l))
 
 pub steady_within : {A : Type 0} (end : ℕ) (part part' : Tokens → Read A) → ((ts : Tokens) → Steady (part ts) (part' ts)) → (other : A → Kind → QueryFault) (ts : Tokens)
     → Steady (read.within end part other ts) (read.within end part' other ts)

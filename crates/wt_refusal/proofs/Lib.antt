@@ -11,3 +11,4 @@ pub mod BeginsConditions
 pub mod BeginsQueries
 pub mod BeginsStatements
 pub mod Ends
+pub mod Stands

@@ -2,10 +2,11 @@
 //! nothing.
 #![tactic(auto)]
 
-ghost use Rattle.std.specs.Prelude.{◌≡◌, ℕ, List, Err};
+ghost use Rattle.std.specs.Prelude.{◌≡◌, ℕ, List, map, Err};
+ghost use Rattle.wt_lex.specs.Sound.{InOrder};
 ghost use Rattle.wt_grammar.specs.Lexemes.{Tokens};
 ghost use Rattle.wt_grammar.specs.Reading.{Refusal, statement};
-ghost use Rattle.wt_refusal.specs.Refused.{BeginsSome, Ends, Parts};
+ghost use Rattle.wt_refusal.specs.Refused.{BeginsSome, Ends, Parts, StandsAt};
 
 /// The tokens before a refusal begin a sentence of the grammar.
 pub fn what_stands_before_a_refusal_begins_a_sentence()
@@ -17,4 +18,10 @@ pub fn what_stands_before_a_refusal_begins_a_sentence()
 pub fn no_sentence_goes_on_with_a_refusal()
     ensures { (end : ℕ) (bytes : List ℕ) (ts : Tokens) (why : Refusal) (at : ℕ) → statement end bytes ts ≡ Err (why, at)
         → Parts end bytes (Ends end bytes why) ts at }
+{}
+
+/// Of tokens that stand in order, as those of a text do, a refusal's place is where both hold.
+pub fn where_a_refusal_stands()
+    ensures { (end : ℕ) (bytes : List ℕ) (ts : Tokens) (why : Refusal) (at : ℕ) → InOrder 0 end (map (λ t. t.token) ts)
+        → statement end bytes ts ≡ Err (why, at) → StandsAt end bytes why ts at }
 {}

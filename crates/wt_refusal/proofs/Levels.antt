@@ -10,9 +10,10 @@ use Rattle.wt_grammar.specs.declared.lexeme.Kind.{Kind}
 use Rattle.wt_grammar.specs.declared.fault.QueryFault.{QueryFault}
 use Rattle.wt_grammar.specs.declared.fault.QueryFault.TheVariants as fault
 use Rattle.wt_grammar.specs.Lexemes.{Tokens, kind, place, is_and, is_or, is_not, is_select, is_where, is_between, is_is, is_in, is_name, is_open, is_close, is_on, is_from, is_end, begins_join}
-use Rattle.wt_grammar.specs.Refusals.{syntax, no_join, no_statement}
+use Rattle.wt_grammar.specs.Refusals.{syntax, no_join}
 use Rattle.wt_grammar.specs.Reading.{Read, refused, plus, followed, taken, joined_to, more, list, run, chain, made, expect, no, of_column, join_of, no_query_end, Nest}
 use Rattle.wt_grammar.specs.Reading as read
+use Rattle.wt_sentence.proofs.Complete.{statement_with}
 
 -- refused for want of a level
 abbrev pub IsTooDeep : {A : Type 0} → Read A → Type 0
@@ -258,19 +259,8 @@ module _ (end : ℕ) (bytes : List ℕ) where
             (steady_joined (read.nest end bytes l) (read.nest end bytes m) below) (λ _. no_join) ts;
       }
 
-  -- a whole statement, with so many levels
-  abbrev pub statement_with : ℕ → Tokens → Read QueryTree
-  statement_with levels ts =
-      if is_select (kind ts)
-      then plus 1 (followed (drop 1 ts) (read.body end bytes (read.nest end bytes levels) (drop 1 ts)) (λ q rest. if is_end (kind rest) then Ok (q, 0) else no end (no_query_end q (kind rest)) rest))
-      else no end (no_statement (kind ts)) ts
-
-  pub statement_is : (ts : Tokens) → read.statement end bytes ts ≡ statement_with 32 ts
-  unfolding read.statement
-  statement_is ts = refl
-
   -- with more levels a statement is answered the same, unless it is refused for want of a level
-  pub more_levels : (l k : ℕ) (ts : Tokens) → IsTooDeep (statement_with l ts) ⊎ (statement_with (l + k) ts ≡ statement_with l ts)
+  pub more_levels : (l k : ℕ) (ts : Tokens) → IsTooDeep (statement_with end bytes l ts) ⊎ (statement_with end bytes (l + k) ts ≡ statement_with end bytes l ts)
   more_levels l k ts =
       steady_if (is_select (kind ts)) _ _ _ _ (steady_plus 1 _ _ (steady_followed (drop 1 ts) (read.body end bytes (read.nest end bytes l) (drop 1 ts)) (read.body end bytes (read.nest end bytes (l + k)) (drop 1 ts))
       (λ q rest. if is_end (kind rest) then Ok (q, 0) else no end (no_query_end q (kind rest)) rest) (λ q rest. if is_end (kind rest) then Ok (q, 0) else no end (no_query_end q (kind rest)) rest)

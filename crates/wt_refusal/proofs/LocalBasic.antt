@@ -11,7 +11,7 @@ use Rattle.wt_grammar.specs.Lexemes.{Tokens, kind, place, is_and, is_or, is_not,
 use Rattle.wt_grammar.specs.Refusals.{syntax}
 use Rattle.wt_grammar.specs.Reading as read
 use Rattle.wt_grammar.specs.Reading.{Read, Refusal, Nest, refused, plus, followed, list, within, opens_tuple, in_follows}
-use Rattle.wt_sentence.specs.Grammar.{Column, Listed}
+use Rattle.wt_sentence.specs.Grammar.{Column, Listed, Parens}
 use Rattle.wt_sentence.proofs.Inversions.{held, chosen, ok_parts, followed_ok}
 use Rattle.wt_sentence.proofs.Took.{list_sound, within_at, behind_front}
 use Rattle.wt_sentence.proofs.SoundParts.{column_sound}
@@ -69,22 +69,29 @@ module _ (end : ℕ) (bytes : List ℕ) (ns : Nest) (below : LocalBelow end byte
       (listed_at end bytes ns below m (read.column end bytes) ts room (column_local end bytes) (deep_at end bytes 0 m c (read.column end bytes) (drop 1 ts) e (column_local end bytes (drop 1 ts))))
       (λ cs n f. after_tuple_local room (place end ts) cs (drop n ts)))
 
+  -- only IN goes on behind a tuple
+  in_behind : (at : ℕ) (cs : List ColumnName) (l : Tokens) (x : CondTree) (n : ℕ) → read.after_tuple end bytes ns at cs l ≡ Ok (x, n) → is_in (kind l) ≡ true
+  unfolding read.after_tuple not_in_tuple
+  in_behind at cs l x n h = by (chosen (is_in (kind l)) _ (not_in_tuple l) _ h)
+    where
+      by : {r : Read CondTree} → ((is_in (kind l) ≡ true) × (r ≡ Ok (x, n))) ⊎ ((is_in (kind l) ≡ false) × (not_in_tuple l ≡ Ok (x, n))) → is_in (kind l) ≡ true
+      by (inl p) = p.0
+      by (inr p) = let z = ap (refuses true) (sym p.1) ∙ not_in_refused true l in absurd cc
+
   -- a tuple and its query are read only behind a parenthesis that opens a tuple
   tuple_read : (us : Tokens) (x : CondTree) (n : ℕ) → is_open (kind us) ≡ true → read.tuple_in end bytes ns us ≡ Ok (x, n) → (is_select (kind (drop 1 us)) ≡ false) × (opens_tuple us ≡ true)
-  unfolding read.tuple_in read.after_tuple read.listed not_in_tuple
+  unfolding read.tuple_in read.listed
   tuple_read us x n opens h =
-      let (cs, m, k, e, r, s) = followed_ok us (read.listed end bytes ns (read.column end bytes) us) _ x n h in
+      let (cs, m, k, e, r, s) = followed_ok us (read.listed end bytes ns (read.column end bytes) us) (λ cs rest. read.after_tuple end bytes ns (place end us) cs rest) x n h in
       let (room, e') = held ns.room _ _ cs m e in
       let (a, b, f, l, p) = within_at (Listed (Column end bytes)) (list (read.column end bytes)) end (λ _. syntax) us cs m opens
       (λ ys j g. list_sound (Column end bytes) (read.column end bytes) (column_sound end bytes) (drop 1 us) ys j g) e' in
-      let rest : drop m us ≡ b = behind_front us a b m f l in
-      let is : is_in (kind b) ≡ true = ap (λ l. is_in (kind l)) (sym rest) ∙ in_there (drop m us) _ k (chosen (is_in (kind (drop m us))) _ (not_in_tuple (drop m us)) _ r) in
-      let (o, s', t) = tuple_opens end bytes cs a b p (ap (λ z. z || (is_not (kind b) && is_in (kind (drop 1 b)))) is) in
-      (ap (λ l. is_select (kind (drop 1 l))) f ∙ s', ap opens_tuple f ∙ t)
+      front cs a b f p (subst (λ z. is_in (kind z) ≡ true) (behind_front us a b m f l) (in_behind (place end us) cs (drop m us) x k r))
     where
-      in_there : (l : Tokens) (r : Read CondTree) (k : ℕ) → ((is_in (kind l) ≡ true) × (r ≡ Ok (x, k))) ⊎ ((is_in (kind l) ≡ false) × (not_in_tuple l ≡ Ok (x, k))) → is_in (kind l) ≡ true
-      in_there l r k (inl p) = p.0
-      in_there l r k (inr p) = let z = ap (refuses true) (sym p.1) ∙ not_in_refused true l in absurd cc
+      front : (cs : List ColumnName) (a b : Tokens) → us ≡ a ++ b → Parens (Listed (Column end bytes)) cs a → is_in (kind b) ≡ true → (is_select (kind (drop 1 us)) ≡ false) × (opens_tuple us ≡ true)
+      front cs a b f p is =
+          let (o, s, t) = tuple_opens end bytes cs a b p (ap (λ z. z || (is_not (kind b) && is_in (kind (drop 1 b)))) is) in
+          (ap (λ l. is_select (kind (drop 1 l))) f ∙ s, ap opens_tuple f ∙ t)
 
   -- ---- what a parenthesis opens
 

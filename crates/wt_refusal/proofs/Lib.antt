@@ -12,3 +12,5 @@ pub mod BeginsQueries
 pub mod BeginsStatements
 pub mod Ends
 pub mod Stands
+pub mod Order
+pub mod Files

@@ -1,7 +1,8 @@
 -- Where a refusal stands: behind tokens with which a sentence begins, at the first token with which none goes on.
-use Rattle.std.specs.Prelude.{◌≡◌, ℕ, ◌≤◌, true, ◌⊎◌, List, ◌∷◌, ◌++◌, take}
+use Rattle.std.specs.Prelude.{◌≡◌, ℕ, ◌≤◌, Bool, true, false, ◌⊎◌, List, ◌∷◌, ◌++◌, take}
 use Rattle.wt_ast.specs.declared.tree.ColumnName.{ColumnName}
 use Rattle.wt_ast.specs.Tree.{QueryTree}
+use Rattle.wt_grammar.specs.declared.fault.QueryFault.{QueryFault}
 use Rattle.wt_grammar.specs.declared.fault.QueryFault.TheVariants as fault
 use Rattle.wt_grammar.specs.declared.lexeme.Lexeme.{Lexeme}
 use Rattle.wt_grammar.specs.Lexemes.{Tokens, kind, place, is_select, is_open, is_close, is_comma}
@@ -14,6 +15,13 @@ looked (refused fault.Arithmetic) = 2
 looked (refused fault.Subquery) = 2
 looked (refused fault.NotInSubquery) = 4
 looked _ = 1
+
+-- the kinds of refusals that come from the grammar, not from the length of a statement or from what its tree has
+abbrev pub is_of_grammar : QueryFault → Bool
+is_of_grammar fault.TooLong = false
+is_of_grammar fault.InUnderOr = false
+is_of_grammar fault.TooMany = false
+is_of_grammar _ = true
 
 -- The depths of sentences of which a refusal speaks: all of them, but for the refusal of a level too many.
 abbrev pub Speaks : Refusal → ℕ → Type 0

@@ -8,7 +8,8 @@ use Rattle.std.specs.Prelude.{if◌then◌else◌}
 use Rattle.wt_lex.specs.declared.token.LexFault.{LexFault}
 use Rattle.wt_lex.specs.declared.token.LexFault.TheVariants as fault
 use Rattle.wt_lex.specs.declared.token.Token.{Token}
-use Rattle.wt_lex.specs.Sound.{AllStandIn}
+use Rattle.wt_lex.specs.Sound.{AllStandIn, InOrder}
+use Rattle.wt_lex.proofs.Ordering.{all_in_order}
 use Rattle.wt_lex.proofs.Standing.{all_stand}
 use Rattle.wt_lex.specs.Tokens.{lexed, open_quote, tokens_from}
 
@@ -69,3 +70,7 @@ lexed_ok bytes ts h = by (chosen (nat_lt 16777216 (length bytes)) _ _ _ h)
 -- and each of its tokens stands in it
 pub tokens_stand : (bytes : List ℕ) (ts : List Token) → lexed bytes ≡ Ok ts → AllStandIn bytes ts
 tokens_stand bytes ts h = all_stand bytes ts (lexed_ok bytes ts h).2
+
+-- and they stand in order
+pub tokens_in_order : (bytes : List ℕ) (ts : List Token) → lexed bytes ≡ Ok ts → InOrder 0 (length bytes) ts
+tokens_in_order bytes ts h = all_in_order bytes ts (lexed_ok bytes ts h).2

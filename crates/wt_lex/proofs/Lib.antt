@@ -2,5 +2,6 @@ pub mod Cutting
 pub mod Lexing
 pub mod Naming
 pub mod Numbers
+pub mod Ordering
 pub mod Standing
 pub mod Storing

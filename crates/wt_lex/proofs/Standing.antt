@@ -57,7 +57,7 @@ closing_at q true at n (b ∷ z) e = by (closing_at q false (at + 1) n z) (b == 
         let now : Some at ≡ Some n = ap (λ t. if t then closing q false (at + 1) z else Some at) (sym s) ∙ e in
         inl (refl, cc)
 
-closes : (q n : ℕ) (z : List ℕ) → closing q false 1 (drop 1 z) ≡ Some n → 0 < length z → (2 ≤ n) × (n ≤ length z) × (get_or z (n - 1) 0 ≡ q)
+pub closes : (q n : ℕ) (z : List ℕ) → closing q false 1 (drop 1 z) ≡ Some n → 0 < length z → (2 ≤ n) × (n ≤ length z) × (get_or z (n - 1) 0 ≡ q)
 closes q n [] e some = absurd (omega arith)
 closes q n (b ∷ z) e some = by (closing_at q false 1 n z e)
   where
@@ -104,7 +104,7 @@ word_byte b h = grind (arith, nat_tests)
 begins_in : (b : ℕ) → begins_word b ≡ true → is_in class.Word b ≡ true
 begins_in b h = grind (arith, nat_tests)
 
-run_some : (z : List ℕ) → 0 < length z → begins_word (get_or z 0 0) ≡ true → 1 ≤ run class.Word z
+pub run_some : (z : List ℕ) → 0 < length z → begins_word (get_or z 0 0) ≡ true → 1 ≤ run class.Word z
 run_some [] some h = absurd (omega arith)
 run_some (b ∷ z) some h = rw (begins_in b h) (omega arith)
 
@@ -160,7 +160,7 @@ all_append : (P : Token → Type 0) (xs ys : List Token) → AllByRecursion P xs
 all_append P [] ys h k = k
 all_append P (x ∷ xs) ys h k = (h.0, all_append P xs ys h.1 k)
 
-abbrev IfCut : (List Token → Type 0) → Result (List Token) ℕ → Type 0
+abbrev pub IfCut : (List Token → Type 0) → Result (List Token) ℕ → Type 0
 IfCut P (Ok ts) = P ts
 IfCut P (Err at) = Unit {0}
 

@@ -1,5 +1,5 @@
 -- Where the tokens of a text stand in it.
-use Rattle.std.specs.Prelude.{◌≡◌, ℕ, ◌+◌, ◌-◌, ◌<◌, ◌≤◌, List, length, slice_index}
+use Rattle.std.specs.Prelude.{◌≡◌, ℕ, ◌+◌, ◌-◌, ◌<◌, ◌≤◌, List, [], ◌∷◌, length, slice_index}
 use Rattle.std.specs.List.{AllByRecursion}
 use Rattle.std.specs.Str.{IsAscii}
 use Rattle.wt_lex.specs.declared.token.TokenKind.{TokenKind}
@@ -27,3 +27,8 @@ StandsIn bytes t = StandsBy t.kind bytes t
 
 abbrev pub AllStandIn : List ℕ → List Token → Type 0
 AllStandIn bytes = AllByRecursion (StandsIn bytes)
+
+-- each token is not empty, begins at `from` or behind it and at or behind the end of the one before, and ends within `end`
+abbrev pub InOrder : ℕ → ℕ → List Token → Type 0
+InOrder from end [] = Unit {0}
+InOrder from end (t ∷ ts) = (from ≤ t.start) × (t.start < t.end) × (t.end ≤ end) × InOrder t.end end ts

@@ -4,7 +4,7 @@ use Rattle.std.specs.Prelude.{if◌then◌else◌}
 use Rattle.wt_ast.specs.Tree.{QueryTree, CondTree, negated}
 use Rattle.wt_grammar.specs.declared.lexeme.Lexeme.{Lexeme}
 use Rattle.wt_grammar.specs.Lexemes.{Tokens, kind, is_select, is_open, is_end}
-use Rattle.wt_grammar.specs.Refusals.{syntax, no_join}
+use Rattle.wt_grammar.specs.Refusals.{syntax, no_join, no_statement}
 use Rattle.wt_grammar.specs.Reading as read
 use Rattle.wt_grammar.specs.Reading.{Read, plus, followed, no_query_end, opens_tuple}
 use Rattle.wt_sentence.specs.Grammar.{Seq, Is, IsAt, Parens, deeper}
@@ -74,13 +74,24 @@ module _ (end : ℕ) (bytes : List ℕ) where
             (ap (λ z. is_open (kind z)) e ∙ is, ap (λ z. is_select (kind (drop 1 z))) e ∙ joined_front end bytes (read.nest end bytes l) (deeper end bytes l) below f b (u ∷ rest) q);
       }
 
-  -- Every sentence of the grammar is read, with its value, and whole.
+  -- a whole statement, with so many levels
+  abbrev pub statement_with : ℕ → Tokens → Read QueryTree
+  statement_with levels ts =
+      if is_select (kind ts)
+      then plus 1 (followed (drop 1 ts) (read.body end bytes (read.nest end bytes levels) (drop 1 ts)) (λ q rest. if is_end (kind rest) then Ok (q, 0) else read.no end (no_query_end q (kind rest)) rest))
+      else read.no end (no_statement (kind ts)) ts
+
+  -- Every sentence of the grammar is read, with its value, and whole, by a reading with as many levels.
+  pub complete_with : (levels : ℕ) (q : QueryTree) (ts : Tokens) → Seq (Is is_select) (spec.Body end bytes (deeper end bytes levels) q) ts → statement_with levels ts ≡ Ok (q, length ts)
+  complete_with levels q ts (m, b, e, (t, e1, is), p) =
+      let body : read.body end bytes (read.nest end bytes levels) (b ++ []) ≡ Ok (q, length b) =
+      body_reads end bytes (read.nest end bytes levels) (deeper end bytes levels) (complete_below levels) b [] q p end_query in
+      let P : Tokens → Type 0 =
+      λ z. followed z (read.body end bytes (read.nest end bytes levels) z) (λ q rest. if is_end (kind rest) then Ok (q, 0) else read.no end (no_query_end q (kind rest)) rest) ≡ Ok (q, length b) in
+      let whole : P (b ++ []) =
+      then_reads (read.body end bytes (read.nest end bytes levels)) (λ q rest. if is_end (kind rest) then Ok (q, 0) else read.no end (no_query_end q (kind rest)) rest) b b [] [] q q (sym (append-nil b)) body refl in
+      subst (λ z. statement_with levels z ≡ Ok (q, length z)) (sym (e ∙ ap (λ z. z ++ b) e1)) (rw is (plus_one _ q (length b) (subst P (append-nil b) whole)))
+
   pub complete : (q : QueryTree) (ts : Tokens) → spec.IsStatement end bytes q ts → read.statement end bytes ts ≡ Ok (q, length ts)
   unfolding read.statement
-  complete q ts (m, b, e, (t, e1, is), p) =
-      let body : read.body end bytes (read.nest end bytes 32) (b ++ []) ≡ Ok (q, length b) =
-      body_reads end bytes (read.nest end bytes 32) (deeper end bytes 32) (complete_below 32) b [] q p end_query in
-      let P : Tokens → Type 0 = λ z. followed z (read.body end bytes (read.nest end bytes 32) z) (λ q rest. if is_end (kind rest) then Ok (q, 0) else read.no end (no_query_end q (kind rest)) rest) ≡ Ok (q, length b) in
-      let whole : P (b ++ []) =
-      then_reads (read.body end bytes (read.nest end bytes 32)) (λ q rest. if is_end (kind rest) then Ok (q, 0) else read.no end (no_query_end q (kind rest)) rest) b b [] [] q q (sym (append-nil b)) body refl in
-      subst (λ z. read.statement end bytes z ≡ Ok (q, length z)) (sym (e ∙ ap (λ z. z ++ b) e1)) (rw is (plus_one _ q (length b) (subst P (append-nil b) whole)))
+  complete = complete_with 32

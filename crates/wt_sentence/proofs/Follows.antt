@@ -106,6 +106,13 @@ pub name_is : (k : Kind) → is_name k ≡ true → k ≡ Name
 name_is Name h = refl
 name_is _ h = absurd cc
 
+-- a join that begins with no JOIN and no INNER begins with LEFT
+pub left_begins : (k : Kind) → begins_join k ≡ true → is_join k ≡ false → is_inner k ≡ false → is_left k ≡ true
+left_begins (Key word.Left) h p q = refl
+left_begins (Key word.Join) h p q = absurd cc
+left_begins (Key word.Inner) h p q = absurd cc
+left_begins _ h p q = absurd cc
+
 -- What may stand behind an operand, an item, a table or an alias.
 pub record Plain (k : Kind) : Type 0 where
   pub not_dot : is_dot k ≡ false

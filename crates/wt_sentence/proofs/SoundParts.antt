@@ -138,9 +138,8 @@ module _ (end : ℕ) (bytes : List ℕ) where
       let (c, e, f) = last_ok ts (column end bytes ts) (λ c. scalar.Column c) x k h in
       took_as (Column end bytes c) (Operand end bytes x) ts k k (λ a p. inl (c, p, f)) refl (column_sound ts c k e)
 
-  pub operand_sound : Sound (Operand end bytes) (operand end bytes)
-  unfolding operand
-  operand_sound ts x k h = by (kind ts) refl (ended_ok end ts (operand_by end bytes (kind ts) ts) x k h)
+  pub operand_by_sound : Sound (Operand end bytes) (λ ts. operand_by end bytes (kind ts) ts)
+  operand_by_sound ts x k h = by (kind ts) refl h
     where
       by : (t : Kind) → kind ts ≡ t → operand_by end bytes t ts ≡ Ok (x, k) → Took (Operand end bytes x) ts k
       by (Number n) e h = unsigned_at ts n x k e h
@@ -149,6 +148,10 @@ module _ (end : ℕ) (bytes : List ℕ) where
           let (v, q, f) = last_ok ts (negative_by end (kind (drop 1 ts)) ts) (λ v. scalar.Literal v (place end ts)) x k h in
           minus_at ts x k e v q f
       by _ e h = column_operand ts x k h
+
+  pub operand_sound : Sound (Operand end bytes) (operand end bytes)
+  unfolding operand
+  operand_sound ts x k h = operand_by_sound ts x k (ended_ok end ts (operand_by end bytes (kind ts) ts) x k h)
 
   pub literal_sound : Sound (AnyLiteral end bytes) (literal end bytes)
   unfolding literal
@@ -193,7 +196,7 @@ module _ (end : ℕ) (bytes : List ℕ) where
   and_parts true false h = absurd cc
   and_parts false b h = absurd cc
 
-  front_sound : Sound (IsItem end bytes) (item_front end bytes)
+  pub front_sound : Sound (IsItem end bytes) (item_front end bytes)
   unfolding item_front
   front_sound ts i k h =
       elim (chosen (is_star (kind ts)) _ _ _ h) [

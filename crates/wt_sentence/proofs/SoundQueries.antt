@@ -1,6 +1,6 @@
 -- What is read is a sentence: conditions, FROM and queries.
 use Rattle.std.proofs.Common.{◌≡◌, ℕ, suc, zero, ◌+◌, ◌-◌, ◌≤◌, length-drop, ◌⊎◌, inl, inr, Bool, true, false, List, [], ◌∷◌, length, drop, refl, ap, sym, ◌∙◌, arith, Ok, Err, Option, Some, None, subst}
-use Rattle.std.specs.Prelude.{◌||◌, if◌then◌else◌}
+use Rattle.std.specs.Prelude.{if◌then◌else◌}
 use Rattle.wt_value.specs.declared.value.Value.{Value}
 use Rattle.wt_ast.specs.declared.tree.ColumnName.{ColumnName}
 use Rattle.wt_ast.specs.declared.tree.CmpWord.{CmpWord}
@@ -15,6 +15,7 @@ use Rattle.wt_grammar.specs.Reading as read
 use Rattle.wt_grammar.specs.Reading.{Read, Refusal, Nest, plus, followed, expect, cmp_of, between_of, join_of, name_only, place_or, opens_tuple, no_query_end}
 use Rattle.wt_sentence.specs.Grammar.{Seq, One, Is, IsAt, Behind, Listed, Parens, Run, Column, AnyLiteral, Operand, Named, Alias, IsItem, Deeper}
 use Rattle.wt_sentence.specs.Grammar as spec
+use Rattle.wt_sentence.proofs.Follows.{left_begins}
 use Rattle.wt_sentence.proofs.Inversions.{chosen, held, ok_parts, plus_ok, followed_ok, last_ok}
 use Rattle.wt_sentence.proofs.Took.{Took, Sound, There, took_none, took_then, took_as, took_one, took_is, took_begin, some_seq, some_one, expected, list_sound, within_at, run_sound}
 use Rattle.wt_sentence.proofs.SoundParts.{column_sound, operand_sound, literal_sound, any_name_sound, name_sound, alias_sound, item_sound, named}
@@ -53,7 +54,7 @@ module _ (end : ℕ) (bytes : List ℕ) where
       (took_then (Operand end bytes low) (Seq (Is is_and) (Operand end bytes high)) (drop 1 ts) m (1 + j') n (operand_sound end bytes (drop 1 ts) low m r) parts (omega arith)) s)
 
   module _ (ns : Nest) (d : Deeper) (below : SoundBelow end bytes ns d) where
-    listed_sound : {A : Type 0} (Part : A → Tokens → Type 0) (part : Tokens → Read A) → Sound Part part → (ts : Tokens) (xs : List A) (n : ℕ) → is_open (kind ts) ≡ true
+    pub listed_sound : {A : Type 0} (Part : A → Tokens → Type 0) (part : Tokens → Read A) → Sound Part part → (ts : Tokens) (xs : List A) (n : ℕ) → is_open (kind ts) ≡ true
         → read.listed end bytes ns part ts ≡ Ok (xs, n) → d.room × Took (Parens (Listed Part) xs) ts n
     unfolding read.listed
     listed_sound Part part part_sound ts xs n opens h =
@@ -284,7 +285,7 @@ module _ (end : ℕ) (bytes : List ℕ) where
         took_as (spec.NameAt end bytes (read.name_at bytes ts) (place end ts)) (spec.NameAt end bytes n at) ts 1 k
         (λ a (t, f, g). (t, f, (g.0, sym (ap (λ p. p.0) e) ∙ g.1, sym (ap (λ p. p.1) e) ∙ g.2))) s (named end bytes ts is)
 
-    derived_name_sound : (ts : Tokens) (n : List ℕ) (at k : ℕ) → read.derived_name end bytes ts ≡ Ok ((n, at), k) → Took (Named end bytes n at) ts k
+    pub derived_name_sound : (ts : Tokens) (n : List ℕ) (at k : ℕ) → read.derived_name end bytes ts ≡ Ok ((n, at), k) → Took (Named end bytes n at) ts k
     unfolding read.derived_name
     derived_name_sound ts n at k h =
         elim (chosen (is_as (kind ts)) _ _ _ h) [
@@ -318,7 +319,7 @@ module _ (end : ℕ) (bytes : List ℕ) where
         took_as (Seq (spec.NameAt end bytes x (place end ts)) (Alias end bytes o)) (spec.Table end bytes d f) ts n n (λ a z. (x, place end ts, o, z, is)) refl
         (took_then (spec.NameAt end bytes x (place end ts)) (Alias end bytes o) ts m j n (name_sound end bytes ts x m e) (alias_sound end bytes (drop m ts) o j e') s)
 
-    primary_sound : Sound (spec.Primary end bytes d) (read.primary end bytes ns)
+    pub primary_sound : Sound (spec.Primary end bytes d) (read.primary end bytes ns)
     unfolding read.primary
     primary_sound ts f n h =
         elim (chosen (is_name (kind ts)) _ _ _ h) [
@@ -331,7 +332,7 @@ module _ (end : ℕ) (bytes : List ℕ) where
               ]
         ]
 
-    words_sound : (ts : Tokens) (k : JoinKind) (n : ℕ) → begins_join (kind ts) ≡ true → read.join_words end ts ≡ Ok (k, n) → Took (spec.JoinWords end bytes d k) ts n
+    pub words_sound : (ts : Tokens) (k : JoinKind) (n : ℕ) → begins_join (kind ts) ≡ true → read.join_words end ts ≡ Ok (k, n) → Took (spec.JoinWords end bytes d k) ts n
     unfolding read.join_words read.outer_join
     words_sound ts k n begins h =
         elim (chosen (is_join (kind ts)) _ _ _ h) [
@@ -346,7 +347,7 @@ module _ (end : ℕ) (bytes : List ℕ) where
                 (took_then (Is is_inner) (Is is_join) ts 1 j n (took_is is_inner ts refl q.0) m s)
             | inr q ↦
                 let (j, e, s) = plus_ok 1 _ k n q.1 in
-                let left = is_left_word p.0 q.0 in
+                let left = left_begins (kind ts) begins p.0 q.0 in
                 elim (chosen (is_outer (kind (drop 1 ts))) _ _ _ e) [
                   | inl r ↦
                       let (i, e', s') = plus_ok 1 _ k j r.1 in
@@ -368,15 +369,7 @@ module _ (end : ℕ) (bytes : List ℕ) where
             let (is, one) = expected is_join syntax end l u j e' in
             (took_as (Is is_join) (Is is_join) l 1 j (λ a z. z) (sym one) (took_is is_join l refl is), f)
 
-        by : (a b c : Bool) → (a || b || c) ≡ true → a ≡ false → b ≡ false → c ≡ true
-        by false false c h p q = h
-        by true b c h p q = absurd cc
-        by false true c h p q = absurd cc
-
-        is_left_word : is_join (kind ts) ≡ false → is_inner (kind ts) ≡ false → is_left (kind ts) ≡ true
-        is_left_word p q = by (is_join (kind ts)) (is_inner (kind ts)) (is_left (kind ts)) begins p q
-
-    join_sound : (a : FromTree) (ts : Tokens) (f : FromTree) (n : ℕ) → begins_join (kind ts) ≡ true → read.join end bytes ns a ts ≡ Ok (f, n) → Took (spec.Join end bytes d a f) ts n
+    pub join_sound : (a : FromTree) (ts : Tokens) (f : FromTree) (n : ℕ) → begins_join (kind ts) ≡ true → read.join end bytes ns a ts ≡ Ok (f, n) → Took (spec.Join end bytes d a f) ts n
     unfolding read.join
     join_sound a ts f n begins h =
         let (k, m, j, e, r, s) = followed_ok ts (read.join_words end ts) _ f n h in
@@ -400,6 +393,18 @@ module _ (end : ℕ) (bytes : List ℕ) where
     joins_skip a (suc k) [] = refl
     joins_skip a (suc k) (t ∷ ts) = joins_skip a k ts
 
+    -- a join has a token or more
+    pub join_some : (a g : FromTree) (l : Tokens) (k : ℕ) → Took (spec.Join end bytes d a g) l k → 1 ≤ k
+    join_some a g l k (b, c, e, s, (w, b', on, cc', p, is)) =
+        let (u, r, e') = some_seq _ _ (words_there w) b p in
+        omega (arith, ap length e', s)
+      where
+        words_there : (k : JoinKind) (l : Tokens) → spec.JoinWords end bytes d k l → There l
+        words_there k l (inl (p, e)) = some_one _ l p
+        words_there k l (inr (inl (p, e))) = some_seq _ _ (λ b y. some_one _ b y) l p
+        words_there k l (inr (inr (inl (p, e)))) = some_seq _ _ (λ b y. some_one _ b y) l p
+        words_there k l (inr (inr (inr (p, e)))) = some_seq _ _ (λ b y. some_one _ b y) l p
+
     -- joins are so many joins, each of one token or more
     joins_sound : (bound : ℕ) (a : FromTree) (ts : Tokens) (f : FromTree) (n : ℕ) → length ts ≤ bound → read.joins end bytes ns a 0 ts ≡ Ok (f, n)
         → (m : ℕ) × Took (spec.Joins end bytes d m a f) ts n
@@ -418,7 +423,7 @@ module _ (end : ℕ) (bytes : List ℕ) where
         go ih begins (Ok x) is e =
             let (j, e', s) = plus_ok x.1 _ f n e in
             let took = join_sound a (t ∷ ts) x.0 x.1 begins is in
-            let some : 1 ≤ x.1 = at_least a x.0 (t ∷ ts) x.1 took in
+            let some : 1 ≤ x.1 = join_some a x.0 (t ∷ ts) x.1 took in
             let rest : drop (x.1 - 1) ts ≡ drop x.1 (t ∷ ts) = drop_less x.1 some in
             let fits : length (drop x.1 (t ∷ ts)) ≤ bound = omega (arith, length-drop x.1 (t ∷ ts)) in
             let (m, q) = ih x.0 f (drop x.1 (t ∷ ts)) j fits (ap (read.joins end bytes ns x.0 0) (sym rest) ∙ sym (joins_skip x.0 (x.1 - 1) ts) ∙ e') in (
@@ -430,17 +435,6 @@ module _ (end : ℕ) (bytes : List ℕ) where
             drop_less : (k : ℕ) → 1 ≤ k → drop (k - 1) ts ≡ drop k (t ∷ ts)
             drop_less zero h = absurd (omega arith)
             drop_less (suc k) h = let e : suc k - 1 ≡ k = omega arith in ap (λ z. drop z ts) e
-
-            words_there : (k : JoinKind) (l : Tokens) → spec.JoinWords end bytes d k l → There l
-            words_there k l (inl (p, e)) = some_one _ l p
-            words_there k l (inr (inl (p, e))) = some_seq _ _ (λ b y. some_one _ b y) l p
-            words_there k l (inr (inr (inl (p, e)))) = some_seq _ _ (λ b y. some_one _ b y) l p
-            words_there k l (inr (inr (inr (p, e)))) = some_seq _ _ (λ b y. some_one _ b y) l p
-
-            at_least : (a g : FromTree) (l : Tokens) (k : ℕ) → Took (spec.Join end bytes d a g) l k → 1 ≤ k
-            at_least a g l k (b, c, e, s, (w, b', on, cc', p, is)) =
-                let (u, r, e') = some_seq _ _ (words_there w) b p in
-                omega (arith, ap length e', s)
 
         by : ((b g : FromTree) (l : Tokens) (k : ℕ) → length l ≤ bound → read.joins end bytes ns b 0 l ≡ Ok (g, k) → (m : ℕ) × Took (spec.Joins end bytes d m b g) l k)
             → ((begins_join t.kind ≡ true) × (read.chain (read.join end bytes ns a (t ∷ ts)) (read.joins end bytes ns (read.made a (read.join end bytes ns a (t ∷ ts))) (read.taken (read.join end bytes ns a (t ∷ ts)) - 1) ts) ≡ Ok (f, n)))
@@ -472,7 +466,7 @@ module _ (end : ℕ) (bytes : List ℕ) where
               took_as (λ l. l ≡ []) (spec.Filter end bytes d w) ts 0 n (λ a z. inl (z, sym e)) s (took_none ts)
         ]
 
-    quantifier_sound : Sound (spec.Quantifier end bytes d) read.quantifier
+    pub quantifier_sound : Sound (spec.Quantifier end bytes d) read.quantifier
     unfolding read.quantifier
     quantifier_sound ts b n h =
         elim (chosen (is_distinct (kind ts)) _ _ _ h) [

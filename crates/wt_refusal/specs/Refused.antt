@@ -1,0 +1,61 @@
+-- Where a refusal stands: behind tokens with which a sentence begins, at the first token with which none goes on.
+use Rattle.std.specs.Prelude.{◌≡◌, ℕ, ◌≤◌, Bool, true, false, ◌⊎◌, List, ◌∷◌, ◌++◌, take}
+use Rattle.wt_ast.specs.declared.tree.ColumnName.{ColumnName}
+use Rattle.wt_ast.specs.Tree.{QueryTree}
+use Rattle.wt_grammar.specs.declared.fault.QueryFault.{QueryFault}
+use Rattle.wt_grammar.specs.declared.fault.QueryFault.TheVariants as fault
+use Rattle.wt_grammar.specs.declared.lexeme.Lexeme.{Lexeme}
+use Rattle.wt_grammar.specs.Lexemes.{Tokens, kind, place, is_select, is_open, is_close, is_comma}
+use Rattle.wt_grammar.specs.Reading.{Refusal, refused}
+use Rattle.wt_sentence.specs.Grammar.{Seq, Is, Column, Body, deeper}
+
+-- How many tokens show a refusal: one, but `-` and what is no number, `(` and SELECT, and NOT IN `(` SELECT.
+abbrev pub looked : Refusal → ℕ
+looked (refused fault.Arithmetic) = 2
+looked (refused fault.Subquery) = 2
+looked (refused fault.NotInSubquery) = 4
+looked _ = 1
+
+-- the kinds of refusals that come from the grammar, not from the length of a statement or from what its tree has
+abbrev pub is_of_grammar : QueryFault → Bool
+is_of_grammar fault.TooLong = false
+is_of_grammar fault.InUnderOr = false
+is_of_grammar fault.TooMany = false
+is_of_grammar _ = true
+
+-- The depths of sentences of which a refusal speaks: all of them, but for the refusal of a level too many.
+abbrev pub Speaks : Refusal → ℕ → Type 0
+Speaks (refused fault.TooDeep) levels = levels ≤ 32
+Speaks _ levels = Unit {0}
+
+module _ (end : ℕ) (bytes : List ℕ) where
+  -- a statement with so many levels of nesting
+  abbrev pub IsSentence : ℕ → QueryTree → Tokens → Type 0
+  IsSentence levels q = Seq (Is is_select) (Body end bytes (deeper end bytes levels) q)
+
+  -- some sentence, of any depth, begins with these tokens
+  abbrev pub BeginsSome : Tokens → Type 0
+  BeginsSome ts = (levels : ℕ) × (more : Tokens) × (q : QueryTree) × IsSentence levels q (ts ++ more)
+
+  -- no sentence goes on, behind the first tokens, with the next n
+  abbrev pub NoneGoesOn : (ℕ → Type 0) → ℕ → Tokens → Tokens → Type 0
+  NoneGoesOn Depth n before behind =
+      (levels : ℕ) (q : QueryTree) (next : Tokens) → Depth levels → take n next ≡ take n behind → IsSentence levels q (before ++ next) → ⊥
+
+  -- A `(` and a column stand before, and a `,` or `)` behind: what may still become a tuple, and was read as a condition
+  -- in parentheses, for its `)` is not followed by IN.
+  abbrev pub IsNoTuple : Tokens → Tokens → Type 0
+  IsNoTuple before behind =
+      (a : Tokens) × (t : Lexeme) × (b : Tokens) × (c : ColumnName) × (before ≡ a ++ t ∷ b) × (is_open t.kind ≡ true) × Column end bytes c b
+      × ((is_comma (kind behind) ≡ true) ⊎ (is_close (kind behind) ≡ true))
+
+  abbrev pub Ends : Refusal → Tokens → Tokens → Type 0
+  Ends why before behind = NoneGoesOn (Speaks why) (looked why) before behind ⊎ ((why ≡ refused fault.Syntax) × IsNoTuple before behind)
+
+  -- the tokens up to a place, and those behind it
+  abbrev pub Parts : (Tokens → Tokens → Type 0) → Tokens → ℕ → Type 0
+  Parts Holds ts at = (before : Tokens) × (behind : Tokens) × (ts ≡ before ++ behind) × (at ≡ place end behind) × Holds before behind
+
+  -- a refusal is at the first tokens with which no sentence goes on
+  abbrev pub StandsAt : Refusal → Tokens → ℕ → Type 0
+  StandsAt why ts at = Parts (λ before behind. BeginsSome before × Ends why before behind) ts at

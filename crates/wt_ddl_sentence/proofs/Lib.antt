@@ -1,0 +1,4 @@
+pub mod Readings
+pub mod Words
+pub mod Targets
+pub mod Elements

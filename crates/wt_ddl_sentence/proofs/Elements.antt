@@ -1,20 +1,18 @@
 -- What the grammar derives is read: columns and rules of a table.
-use Rattle.std.proofs.Common.{◌≡◌, ℕ, ◌≤◌, Bool, true, false, ◌⊎◌, inl, inr, List, [], ◌∷◌, ◌++◌, length, drop, refl, ap, sym, ◌∙◌, arith, Ok, Err}
-use Rattle.std.specs.Prelude.{if◌then◌else◌, ◌||◌, nat_le, codes}
-use Rattle.wt_lex.specs.declared.token.Token.{Token}
-use Rattle.wt_ddl.specs.declared.fault.DdlFault.TheVariants as fault
+use Rattle.std.proofs.Common.{◌≡◌, ℕ, ◌≤◌, true, false, ◌⊎◌, inl, inr, List, [], ◌∷◌, ◌++◌, length, refl, arith, Ok}
+use Rattle.std.specs.Prelude.{nat_le, codes}
 use Rattle.wt_ddl.specs.Fronts.{Tokens, at_kind, at_word, is_open, is_close, is_comma, is_some_word}
 use Rattle.wt_ddl.specs.Grammar as grammar
 use Rattle.wt_ddl.specs.Grammar.{Part, Then, Maybe, Many, Sign}
 use Rattle.wt_ddl.specs.Reading as spec
 use Rattle.wt_ddl.specs.Reading.{Read, followed}
 use Rattle.wt_ddl_sentence.proofs.Readings.{IsRead, Follow, Anything, Completes, Leads, nothing, taken, skipped, both_ways, then_read, end_read, first_read, first_then_read, first_end_read, leads_then, leads_many, many_read}
-use Rattle.wt_ddl_sentence.proofs.Words.{Differ, Reserved, sign_one, sign_front, other_word, kind_at_word, no_word, word_one, name_front, not_open_at_comma, not_open_at_close, no_word_at_comma, no_word_at_close, no_comma_at_close}
-use Rattle.wt_ddl_sentence.proofs.Targets.{no_value, AtClose, NotOpen, then_some, sign_read, Of, AtWord, then_front, front, size, word_read, name_read, names_read, kind_read, AfterTarget, target_read}
+use Rattle.wt_ddl_sentence.proofs.Words.{Differ, Reserved, At, then_sign, sign_one, sign_front, other_word, kind_at_word, no_word, word_one, name_front, not_open_at_comma, not_open_at_close, no_word_at_comma, no_word_at_close, no_comma_at_close}
+use Rattle.wt_ddl_sentence.proofs.Targets.{AtClose, NotOpen, then_some, Of, AtWord, then_front, front, size, word_read, name_read, names_read, kind_read, AfterTarget, target_read}
 
 -- a comma or a closing parenthesis stands behind an element
 abbrev pub AfterElement : Follow
-AfterElement ts = (at_kind is_comma ts ≡ true) ⊎ AtClose ts
+AfterElement ts = At is_comma ts ⊎ AtClose ts
 
 pub element_not_open : (ts : Tokens) → AfterElement ts → NotOpen ts
 element_not_open ts (inl h) = not_open_at_comma ts h
@@ -283,9 +281,8 @@ module _ (bytes : List ℕ) where
   unfolding spec.next_element
   next_element_read d a rest p f = first_read (Sign is_comma) (grammar.Element bytes) AfterElement (spec.element bytes d) (sign_one is_comma) (element_read d) a rest p f
 
-  next_element_front : (F : Follow) → Leads Next_element F (λ ts. at_kind is_comma ts ≡ true)
-  next_element_front F a rest p f =
-      leads_then (Sign is_comma) (grammar.Element bytes) Anything Anything (λ ts. at_kind is_comma ts ≡ true) (sign_front is_comma Anything) (nothing (grammar.Element bytes) Anything) a rest p tt
+  next_element_front : (F : Follow) → Leads Next_element F (At is_comma)
+  next_element_front F = then_sign is_comma (grammar.Element bytes) F
 
   pub more_elements_read : (d : _) → Completes (Many Next_element) AtClose (spec.more_elements bytes d)
   more_elements_read =

@@ -1,5 +1,5 @@
 -- Readings put together: a part that is followed by another, a token in front, and loops.
-use Rattle.std.proofs.Common.{◌≡◌, ℕ, zero, suc, ◌+◌, ◌-◌, ◌≤◌, Bool, true, false, inl, inr, List, [], ◌∷◌, ◌++◌, length, drop, refl, ap, sym, ◌∙◌, subst, arith, length-append, append_assoc, append-nil, add-zero, Ok, Err}
+use Rattle.std.proofs.Common.{◌≡◌, ℕ, zero, suc, ◌+◌, ◌-◌, ◌≤◌, Bool, true, false, inl, inr, List, [], ◌∷◌, ◌++◌, length, drop, refl, ap, sym, ◌∙◌, subst, arith, length-append, append_assoc, add-zero, Ok, Err}
 use Rattle.std.specs.Prelude.{if◌then◌else◌}
 use Rattle.std.proofs.Math.Seq.{drop-append_seam}
 use Rattle.wt_lex.specs.declared.token.Token.{Token}
@@ -148,7 +148,7 @@ module _ {A : Type 0} (test : Tokens → Bool) (part : A → Tokens → Read A) 
       by (Ok y) k =
           let left : y.1 - 1 ≡ length us = omega (arith, k) in
           let there : repeat test part 0 y.0 rest ≡ repeat test part (y.1 - 1) y.0 (us ++ rest) =
-              ap (repeat test part 0 y.0) (sym (drop-append_seam us rest)) ∙ sym (skip (length us) y.0 (us ++ rest)) ∙ ap (λ i. repeat test part i y.0 (us ++ rest)) (sym left) in
+          ap (repeat test part 0 y.0) (sym (drop-append_seam us rest)) ∙ sym (skip (length us) y.0 (us ++ rest)) ∙ ap (λ i. repeat test part i y.0 (us ++ rest)) (sym left) in
           subst (λ i. IsRead (plus y.1 (repeat test part (y.1 - 1) y.0 (us ++ rest))) (i + n)) k
           (plus_read y.1 n (repeat test part (y.1 - 1) y.0 (us ++ rest)) (subst (λ r. IsRead r n) there (next y.0)))
 

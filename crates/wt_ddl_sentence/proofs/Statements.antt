@@ -1,7 +1,6 @@
 -- What the grammar derives is read: statements and whole schemas.
 use Rattle.std.proofs.Common.{◌≡◌, ℕ, ◌+◌, ◌≤◌, Bool, true, false, inl, inr, List, [], ◌∷◌, ◌++◌, length, drop, refl, ap, sym, ◌∙◌, subst, arith, length-append, append_assoc, append-nil, add-zero, Result, Ok, Err}
-use Rattle.std.specs.Prelude.{if◌then◌else◌, ◌&&◌, nat_le, codes}
-use Rattle.wt_lex.specs.declared.token.Token.{Token}
+use Rattle.std.specs.Prelude.{◌&&◌, nat_le, codes}
 use Rattle.wt_ddl.specs.declared.fault.DdlError.{DdlError}
 use Rattle.wt_ddl.specs.Fronts.{Tokens, at_kind, at_word, is_open, is_close, is_semi}
 use Rattle.wt_ddl.specs.Grammar as grammar
@@ -10,7 +9,7 @@ use Rattle.wt_ddl.specs.Reading as spec
 use Rattle.wt_ddl.specs.Reading.{Read, followed, repeat}
 use Rattle.wt_ddl.specs.Settling.{settled}
 use Rattle.wt_ddl_sentence.proofs.Readings.{IsRead, Follow, Anything, Completes, Leads, nothing, taken, skipped, both_ways, then_read, end_read, two_read, leads_then, repeat_step, pieces_read}
-use Rattle.wt_ddl_sentence.proofs.Words.{sign_one, sign_front, one_size, kind_at_word, no_word_at, word_one, name_one}
+use Rattle.wt_ddl_sentence.proofs.Words.{At, then_sign, sign_one, sign_front, one_size, kind_at_word, no_word_at, word_one}
 use Rattle.wt_ddl_sentence.proofs.Targets.{AtClose, then_some, sign_read, Of, then_front, word_read, name_read}
 use Rattle.wt_ddl_sentence.proofs.Elements.{AfterElement, element_read, Next_element, more_elements_read, elements_follow}
 use Rattle.wt_ddl_sentence.proofs.Settling.{OfNames, settled_names}
@@ -81,14 +80,14 @@ module _ (bytes : List ℕ) where
       (two_read (Of bytes (codes "if")) (Of bytes (codes "not")) (Of bytes (codes "exists")) Anything (spec.word bytes (codes "exists")) (word_one bytes (codes "if")) (word_one bytes (codes "not"))
       (word_read bytes (codes "exists")) a rest p tt)
 
-  name_not_behind : (P : Part) (a rest : Tokens) → Then (grammar.Name bytes) (Then (grammar.Body bytes) P) a → NotBehind (a ++ rest)
-  name_not_behind P a rest (b, c, e, (t, e', h), q) = subst (λ l. NotBehind (l ++ rest)) (sym (e ∙ ap (λ l. l ++ c) e')) (no_word_at bytes is_open (codes "not") (c ++ rest) refl (opened c rest q))
-    where
-      opened : (c rest : Tokens) → Then (grammar.Body bytes) P c → at_kind is_open (c ++ rest) ≡ true
-      opened c rest q =
-          let All = Then (grammar.Element bytes) (Then (Many (Next_element bytes)) (Sign is_close)) in
-          leads_then (grammar.Body bytes) P Anything Anything (λ ts. at_kind is_open ts ≡ true)
-          (leads_then (Sign is_open) All Anything Anything (λ ts. at_kind is_open ts ≡ true) (sign_front is_open Anything) (nothing All Anything)) (nothing P Anything) c rest q tt
+  body_front : (P : Part) (F : Follow) → Leads (Then (grammar.Body bytes) P) F (At is_open)
+  body_front P F a rest p f =
+      let All = Then (grammar.Element bytes) (Then (Many (Next_element bytes)) (Sign is_close)) in
+      leads_then (grammar.Body bytes) P Anything Anything (At is_open) (then_sign is_open All Anything) (nothing P Anything) a rest p tt
+
+  name_not_behind : (P : Part) (F : Follow) → Leads (Then (grammar.Name bytes) (Then (grammar.Body bytes) P)) F NotBehind
+  name_not_behind P F a rest (b, c, e, (t, e', h), q) f =
+      subst (λ l. NotBehind (l ++ rest)) (sym (e ∙ ap (λ l. l ++ c) e')) (no_word_at bytes is_open (codes "not") (c ++ rest) refl (body_front P F c rest q f))
 
   -- A statement, and what ends it: a `;`, or nothing where the text ends.
   module _ (End : Part) (F : Follow) (ending_read : Completes End F (spec.ending bytes)) where
@@ -106,7 +105,7 @@ module _ (bytes : List ℕ) where
         then_read (grammar.Body bytes) End Anything F (spec.body bytes n.name) _ (body_read n.name) (λ t d v m i.
         end_read End F (spec.ending bytes) _ ending_read (λ w l j. refl) d v m i) (nothing End F) c s k h)))
         (nothing Rest F) b r q g)
-        (λ b r q g. name_not_behind End b r q) a rest p f
+        (name_not_behind End F) a rest p f
 
     behind_create : (a : Tokens) → Then (grammar.Create bytes) End a → Then (Of bytes (codes "create")) (Then (Of bytes (codes "table")) (Then (Maybe Unless) Named)) a
     behind_create a p =

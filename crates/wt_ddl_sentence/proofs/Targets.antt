@@ -1,25 +1,23 @@
 -- What the grammar derives is read: names, types and targets of references.
-use Rattle.std.proofs.Common.{◌≡◌, ◌≢◌, ℕ, ◌≤◌, Bool, true, false, ◌⊎◌, inl, inr, List, [], ◌∷◌, ◌++◌, length, drop, refl, ap, sym, ◌∙◌, subst, arith, length-append, Ok, Err, Option, Some, None}
-use Rattle.std.specs.Prelude.{if◌then◌else◌, ◌==◌, ◌||◌, ◌&&◌, codes}
+use Rattle.std.proofs.Common.{◌≡◌, ◌≢◌, ℕ, ◌≤◌, Bool, true, false, inl, inr, List, [], ◌∷◌, ◌++◌, length, refl, ap, sym, subst, arith, length-append}
+use Rattle.std.specs.Prelude.{if◌then◌else◌, ◌==◌, ◌||◌, codes}
 use Rattle.std.proofs.lemmas.Bool.Decides.{nat_tests}
 use Rattle.wt_lex.specs.declared.token.TokenKind.{TokenKind}
 use Rattle.wt_lex.specs.declared.token.TokenKind.TheVariants as kinds
-use Rattle.wt_lex.specs.declared.token.Token.{Token}
-use Rattle.wt_schema.specs.declared.schema.ColKind.TheVariants as col
-use Rattle.wt_ddl.specs.Fronts.{Tokens, at_kind, at_word, is_open, is_close, is_comma, is_some_word, is_name}
+use Rattle.wt_ddl.specs.Fronts.{Tokens, at_kind, at_word, is_open, is_close, is_comma}
 use Rattle.wt_ddl.specs.Grammar as grammar
 use Rattle.wt_ddl.specs.Grammar.{Part, Then, Either, Maybe, Many, Sign}
 use Rattle.wt_ddl.specs.Reading as spec
 use Rattle.wt_ddl.specs.Reading.{Read, plus, followed}
-use Rattle.wt_ddl_sentence.proofs.Readings.{IsRead, Follow, Anything, Completes, Leads, IsOne, nothing, taken, skipped, then_read, end_read, first_read, leads_then, leads_many, leads_maybe, many_read}
-use Rattle.wt_ddl_sentence.proofs.Words.{Differ, sign_one, sign_front, one_size, other_word, kind_at_word, no_word_at, no_word, word_one, word_front, name_one, not_open_at_comma, not_open_at_close, no_comma_at_close}
+use Rattle.wt_ddl_sentence.proofs.Readings.{IsRead, Follow, Anything, Completes, Leads, IsOne, nothing, taken, skipped, then_read, end_read, first_read, first_then_read, first_end_read, leads_then, leads_many, many_read}
+use Rattle.wt_ddl_sentence.proofs.Words.{Differ, At, then_sign, sign_one, sign_front, one_size, other_word, kind_at_word, word_one, word_front, no_comma_at_close}
 
 abbrev pub no_value : Unit {0}
 no_value = tt
 
 -- a parenthesis closes behind the part
 abbrev pub AtClose : Follow
-AtClose ts = at_kind is_close ts ≡ true
+AtClose = At is_close
 
 abbrev pub NotOpen : Follow
 NotOpen ts = at_kind is_open ts ≡ false
@@ -67,14 +65,12 @@ module _ (bytes : List ℕ) where
   next_name_read : (all : _) → Completes Next_name Anything (spec.next_name bytes all)
   unfolding spec.next_name
   next_name_read all a rest p f =
-      first_read (Sign is_comma) (grammar.Name bytes) Anything (λ l. followed l (spec.name bytes l) (λ n b. Ok (all ++ n ∷ [], 0))) (sign_one is_comma)
-      (end_read (grammar.Name bytes) Anything (spec.name bytes) (λ n b. Ok (all ++ n ∷ [], 0)) name_read (λ n l g. refl)) a rest p f
+      first_end_read (Sign is_comma) (grammar.Name bytes) Anything (spec.name bytes) _ (sign_one is_comma) name_read (λ n l g. refl) a rest p f
 
   more_names_read : (all : _) → Completes (Many Next_name) AtClose (spec.more_names bytes all)
   more_names_read =
       many_read (at_kind is_comma) (spec.next_name bytes) Next_name Anything (then_some (Sign is_comma) (grammar.Name bytes) (sign_one is_comma))
-      (leads_then (Sign is_comma) (grammar.Name bytes) Anything Anything (λ ts. at_kind is_comma ts ≡ true) (sign_front is_comma Anything) (nothing (grammar.Name bytes) Anything))
-      next_name_read (nothing Next_name Anything) AtClose (λ ts h. tt) no_comma_at_close
+      (then_sign is_comma (grammar.Name bytes) Anything) next_name_read (nothing Next_name Anything) AtClose (λ ts h. tt) no_comma_at_close
 
   pub names_read : Completes (grammar.Names bytes) Anything (spec.names bytes)
   unfolding spec.names
@@ -99,11 +95,9 @@ module _ (bytes : List ℕ) where
   width_read a rest (inl e) f = subst (λ l. IsRead (spec.width bytes (l ++ rest)) (length l)) (sym e) (skipped (at_kind is_open rest) _ _ 0 f refl)
   width_read a rest (inr p) f =
       let Close = Sign is_close in
-      let In = Then grammar.Number Close in
-      taken (at_kind is_open (a ++ rest)) _ _ (length a) (leads_then (Sign is_open) In Anything Anything (λ ts. at_kind is_open ts ≡ true) (sign_front is_open Anything) (nothing In Anything) a rest p tt)
-      (first_read (Sign is_open) In Anything (λ l. followed l (spec.number bytes l) (λ u b. followed b (spec.symbol bytes is_close b) (λ v c. Ok (col.Text, 0)))) (sign_one is_open)
-      (then_read grammar.Number Close Anything Anything (spec.number bytes) _ number_read
-      (λ u. end_read Close Anything (spec.symbol bytes is_close) _ (sign_read bytes is_close) (λ v l g. refl)) (nothing Close Anything)) a rest p tt)
+      taken (at_kind is_open (a ++ rest)) _ _ (length a) (then_sign is_open (Then grammar.Number Close) Anything a rest p tt)
+      (first_then_read (Sign is_open) grammar.Number Close Anything Anything (spec.number bytes) _ (sign_one is_open) number_read
+      (λ u. end_read Close Anything (spec.symbol bytes is_close) _ (sign_read bytes is_close) (λ v l g. refl)) (nothing Close Anything) a rest p tt)
 
   whole_front : (a rest : Tokens) → grammar.Whole bytes a → spec.at_whole bytes (a ++ rest) ≡ true
   whole_front a rest (inl p) = let h = front (codes "integer") a rest p in rw h refl
@@ -162,8 +156,8 @@ module _ (bytes : List ℕ) where
       (skipped (at_word bytes (codes "text") ts) _ _ (length a) (other_word bytes w (codes "text") ts refl h)
       (skipped (at_word bytes (codes "varchar") ts) _ _ (length a) (other_word bytes w (codes "varchar") ts refl h)
       (taken (at_word bytes w ts) _ _ (length a) h
-      (first_read (Of w) Varying NotOpen (λ l. followed l (spec.word bytes (codes "varying") l) (λ u b. spec.width bytes b)) (word_one bytes w)
-      (then_read (Of (codes "varying")) (grammar.Width bytes) Anything NotOpen (spec.word bytes (codes "varying")) _ (word_read (codes "varying")) (λ u. width_read) (nothing (grammar.Width bytes) NotOpen)) a rest p f))))
+      (first_then_read (Of w) (Of (codes "varying")) (grammar.Width bytes) Anything NotOpen (spec.word bytes (codes "varying")) _ (word_one bytes w) (word_read (codes "varying"))
+      (λ u. width_read) (nothing (grammar.Width bytes) NotOpen) a rest p f))))
 
   -- ---- targets
 
@@ -203,10 +197,10 @@ module _ (bytes : List ℕ) where
   change_one a (inl p) = word_one bytes (codes "delete") a p
   change_one a (inr p) = word_one bytes (codes "update") a p
 
-  at_change : Tokens → Bool
-  at_change ts = at_word bytes (codes "delete") ts || at_word bytes (codes "update") ts
+  abbrev AtChange : Follow
+  AtChange ts = (at_word bytes (codes "delete") ts || at_word bytes (codes "update") ts) ≡ true
 
-  change_front : Leads Change Anything (λ ts. (at_word bytes (codes "delete") ts || at_word bytes (codes "update") ts) ≡ true)
+  change_front : Leads Change Anything AtChange
   change_front a rest (inl p) f = let h = front (codes "delete") a rest p in rw h refl
   change_front a rest (inr p) f =
       let h = front (codes "update") a rest p in
@@ -217,7 +211,7 @@ module _ (bytes : List ℕ) where
   unfolding spec.event
   event_read a rest p f =
       taken (at_word bytes (codes "delete") (a ++ rest) || at_word bytes (codes "update") (a ++ rest)) _ _ (length a)
-      (leads_then Change (grammar.Action bytes) Anything Anything (λ ts. (at_word bytes (codes "delete") ts || at_word bytes (codes "update") ts) ≡ true) change_front (nothing (grammar.Action bytes) Anything) a rest p f)
+      (leads_then Change (grammar.Action bytes) Anything Anything AtChange change_front (nothing (grammar.Action bytes) Anything) a rest p f)
       (first_read Change (grammar.Action bytes) Anything (spec.action bytes) change_one action_read a rest p f)
 
   simple_read : Completes (Of (codes "simple")) Anything (spec.simple bytes)
@@ -269,7 +263,7 @@ module _ (bytes : List ℕ) where
   target_names_read a rest (inl e) f = subst (λ l. IsRead (spec.target_names bytes (l ++ rest)) (length l)) (sym e) (skipped (at_kind is_open rest) _ _ 0 f refl)
   target_names_read a rest (inr p) f =
       let In = Then (grammar.Name bytes) (Then (Many Next_name) (Sign is_close)) in
-      taken (at_kind is_open (a ++ rest)) _ _ (length a) (leads_then (Sign is_open) In Anything Anything (λ ts. at_kind is_open ts ≡ true) (sign_front is_open Anything) (nothing In Anything) a rest p tt)
+      taken (at_kind is_open (a ++ rest)) _ _ (length a) (then_sign is_open In Anything a rest p tt)
       (end_read (grammar.Names bytes) Anything (spec.names bytes) _ names_read (λ all l g. refl) a rest p tt)
 
   option_not_open : (a rest : Tokens) → grammar.Option bytes a → NotOpen (a ++ rest)

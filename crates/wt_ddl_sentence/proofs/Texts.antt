@@ -1,10 +1,10 @@
 -- A text whose tokens are a sentence is read, or refused for its names.
-use Rattle.std.proofs.Common.{◌≡◌, ℕ, true, false, not, Bool, List, [], length, refl, ap, sym, ◌∙◌, subst, None, IfErr, Result, Ok, Err}
+use Rattle.std.proofs.Common.{◌≡◌, ℕ, true, false, not, List, length, ap, sym, ◌∙◌, subst, IfErr, Result, Ok, Err}
 use Rattle.wt_ddl.specs.declared.fault.DdlError.{DdlError}
 use Rattle.wt_ddl.specs.declared.fault.DdlError.TheVariants as errors
 use Rattle.wt_ddl.specs.Grammar.{IsText}
 use Rattle.wt_ddl.specs.Reading.{Read, statements}
-use Rattle.wt_ddl.specs.Schemas.{schema_of, of_tokens, unless_odd, linked_up, first_odd}
+use Rattle.wt_ddl.specs.Schemas.{schema_of, of_tokens, unless_odd, linked_up}
 use Rattle.wt_ddl_sentence.specs.Faults.{is_of_grammar, is_of_names}
 use Rattle.wt_ddl_sentence.proofs.Readings.{IsRead}
 use Rattle.wt_ddl_sentence.proofs.Settling.{OfNames, linked_tables_names}

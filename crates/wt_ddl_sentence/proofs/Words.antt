@@ -1,16 +1,14 @@
 -- What the first token of a part says of the tests that a reading asks of it.
-use Rattle.std.proofs.Common.{◌≡◌, ℕ, ◌≤◌, Bool, true, false, not, inl, inr, List, [], ◌∷◌, ◌++◌, length, refl, ap, sym, ◌∙◌, subst, arith, Option, Some, None}
-use Rattle.std.specs.Prelude.{◌&&◌, ◌||◌}
+use Rattle.std.proofs.Common.{◌≡◌, ℕ, Bool, true, false, not, List, [], ◌∷◌, ◌++◌, length, refl, ap, sym, ◌∙◌, subst, arith}
 use Rattle.std.specs.Str.{bytes_eq}
 use Rattle.std.proofs.lemmas.Slice.Eq.{bytes_eq-Decides}
 use Rattle.wt_lex.specs.declared.token.TokenKind.{TokenKind}
 use Rattle.wt_lex.specs.declared.token.TokenKind.TheVariants as kinds
 use Rattle.wt_lex.specs.declared.token.Sym.TheVariants as symbols
-use Rattle.wt_lex.specs.declared.token.Token.{Token}
-use Rattle.wt_lex.specs.Names.{folded, spelled, is_reserved, is_word, word_by}
-use Rattle.wt_ddl.specs.Fronts.{Tokens, at_kind, at_word, is_open, is_close, is_comma, is_semi, is_some_word, is_name, names_by}
-use Rattle.wt_ddl.specs.Grammar.{Part, Sign, Word, Name}
-use Rattle.wt_ddl_sentence.proofs.Readings.{Follow, IsOne, Leads}
+use Rattle.wt_lex.specs.Names.{folded, spelled, is_reserved, word_by}
+use Rattle.wt_ddl.specs.Fronts.{Tokens, at_kind, at_word, is_open, is_close, is_comma, is_some_word, names_by}
+use Rattle.wt_ddl.specs.Grammar.{Part, Then, Sign, Word, Name}
+use Rattle.wt_ddl_sentence.proofs.Readings.{Follow, Anything, IsOne, Leads, nothing, leads_then}
 
 -- two words are not the same, whatever the case of their letters
 abbrev pub Differ : List ℕ → List ℕ → Type 0
@@ -104,11 +102,18 @@ no_comma_at_close ts h = kind_only is_close is_comma ts close_not_comma h
 
 -- ---- parts of one token
 
+-- the tokens begin with such a symbol
+abbrev pub At : (TokenKind → Bool) → Follow
+At test ts = at_kind test ts ≡ true
+
 pub sign_one : (test : TokenKind → Bool) → IsOne (Sign test)
 sign_one test a (t, e, h) = (t, e)
 
-pub sign_front : (test : TokenKind → Bool) (F : Follow) → Leads (Sign test) F (λ ts. at_kind test ts ≡ true)
+pub sign_front : (test : TokenKind → Bool) (F : Follow) → Leads (Sign test) F (At test)
 sign_front test F a rest (t, e, h) f = subst (λ l. at_kind test (l ++ rest) ≡ true) (sym e) h
+
+pub then_sign : (test : TokenKind → Bool) (Q : Part) (F : Follow) → Leads (Then (Sign test) Q) F (At test)
+then_sign test Q F a rest p f = leads_then (Sign test) Q Anything Anything (At test) (sign_front test Anything) (nothing Q Anything) a rest p tt
 
 pub one_size : (P : Part) → IsOne P → (a : Tokens) → P a → 1 ≡ length a
 one_size P one a p = let (t, e) = one a p in omega (arith, ap length e)

@@ -6,19 +6,19 @@ use Rattle.wt_ddl.specs.Grammar as grammar
 use Rattle.wt_ddl.specs.Grammar.{Part, Then, Maybe, Many, Sign}
 use Rattle.wt_ddl.specs.Reading as spec
 use Rattle.wt_ddl.specs.Reading.{Read, followed}
-use Rattle.wt_ddl_sentence.proofs.Readings.{IsRead, Follow, Anything, Completes, Leads, nothing, taken, skipped, both_ways, then_read, end_read, first_read, first_then_read, first_end_read, leads_then, leads_many, many_read}
+use Rattle.wt_ddl_sentence.proofs.Readings.{IsRead, Follow, Anything, Completes, Leads, then_some, nothing, taken, skipped, both_ways, then_read, end_read, first_read, first_then_read, first_end_read, leads_then, leads_many, many_read}
 use Rattle.wt_ddl_sentence.proofs.Words.{Differ, Reserved, At, then_sign, sign_one, sign_front, other_word, kind_at_word, no_word, word_one, name_front, not_open_at_comma, not_open_at_close, no_word_at_comma, no_word_at_close, no_comma_at_close}
-use Rattle.wt_ddl_sentence.proofs.Targets.{AtClose, NotOpen, then_some, Of, AtWord, then_front, front, size, word_read, name_read, names_read, kind_read, AfterTarget, target_read}
+use Rattle.wt_ddl_sentence.proofs.Targets.{AtClose, NotOpen, Of, AtWord, then_front, front, size, word_read, name_read, names_read, kind_read, AfterTarget, target_read}
 
 -- a comma or a closing parenthesis stands behind an element
 abbrev pub AfterElement : Follow
 AfterElement ts = At is_comma ts ⊎ AtClose ts
 
-pub element_not_open : (ts : Tokens) → AfterElement ts → NotOpen ts
+element_not_open : (ts : Tokens) → AfterElement ts → NotOpen ts
 element_not_open ts (inl h) = not_open_at_comma ts h
 element_not_open ts (inr h) = not_open_at_close ts h
 
-pub element_no_word : (ts : Tokens) → AfterElement ts → at_kind is_some_word ts ≡ false
+element_no_word : (ts : Tokens) → AfterElement ts → at_kind is_some_word ts ≡ false
 element_no_word ts (inl h) = no_word_at_comma ts h
 element_no_word ts (inr h) = no_word_at_close ts h
 

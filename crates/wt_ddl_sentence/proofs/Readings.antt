@@ -1,10 +1,10 @@
 -- Readings put together: a part that is followed by another, a token in front, and loops.
-use Rattle.std.proofs.Common.{◌≡◌, ℕ, zero, suc, ◌+◌, ◌-◌, ◌≤◌, Bool, true, false, inl, inr, List, [], ◌∷◌, ◌++◌, length, drop, refl, ap, sym, ◌∙◌, subst, arith, length-append, append_assoc, add-zero, Ok, Err}
+use Rattle.std.proofs.Common.{◌≡◌, ℕ, zero, suc, ◌+◌, ◌-◌, ◌≤◌, Bool, true, false, List, [], ◌∷◌, ◌++◌, length, drop, refl, ap, sym, ◌∙◌, subst, arith, length-append, append_assoc, add-zero, Ok, Err}
 use Rattle.std.specs.Prelude.{if◌then◌else◌}
 use Rattle.std.proofs.Math.Seq.{drop-append_seam}
 use Rattle.wt_lex.specs.declared.token.Token.{Token}
 use Rattle.wt_ddl.specs.Fronts.{Tokens}
-use Rattle.wt_ddl.specs.Grammar.{Part, Then, Maybe, Many, Pieces}
+use Rattle.wt_ddl.specs.Grammar.{Part, Then, Many, Pieces}
 use Rattle.wt_ddl.specs.Reading.{Read, plus, followed, onward, repeat}
 use Rattle.wt_ddl_sentence.specs.Faults.{is_of_names}
 
@@ -79,6 +79,9 @@ end_read P F r f one next a rest p g =
 abbrev pub IsOne : Part → Type 0
 IsOne P = (a : Tokens) → P a → (t : Token) × (a ≡ t ∷ [])
 
+pub then_some : (P Q : Part) → IsOne P → (a : Tokens) → Then P Q a → 1 ≤ length a
+then_some P Q one a (b, c, e, p, q) = let (t, f) = one b p in omega (arith, ap length e, ap length f, length-append b c)
+
 pub first_read : {A : Type 0} (P Q : Part) (G : Follow) (r : Tokens → Read A) → IsOne P → Completes Q G r
     → (a rest : Tokens) → Then P Q a → G rest → IsRead (plus 1 (r (drop 1 (a ++ rest)))) (length a)
 first_read P Q G r one next a rest (b, c, e, p, q) g =
@@ -118,10 +121,6 @@ leads_many P F G each last a rest (pieces, all) g = by pieces a all
     by : (pieces : List Tokens) (a : Tokens) → Pieces P pieces a → F (a ++ rest)
     by [] a e = subst (λ l. F (l ++ rest)) (sym e) (last rest g)
     by (p ∷ ps) a (b, e, h, others) = subst F (sym (ap (λ l. l ++ rest) e ∙ append_assoc p b rest)) (each p (b ++ rest) h (by ps b others))
-
-pub leads_maybe : (P : Part) (F G : Follow) → Leads P F G → ((ts : Tokens) → F ts → G ts) → Leads (Maybe P) F G
-leads_maybe P F G one other a rest (inl e) f = subst (λ l. G (l ++ rest)) (sym e) (other rest f)
-leads_maybe P F G one other a rest (inr p) f = one a rest p f
 
 -- ---- loops
 

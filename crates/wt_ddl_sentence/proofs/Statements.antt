@@ -8,9 +8,9 @@ use Rattle.wt_ddl.specs.Grammar.{Part, Then, Maybe, Many, Sign}
 use Rattle.wt_ddl.specs.Reading as spec
 use Rattle.wt_ddl.specs.Reading.{Read, followed, repeat}
 use Rattle.wt_ddl.specs.Settling.{settled}
-use Rattle.wt_ddl_sentence.proofs.Readings.{IsRead, Follow, Anything, Completes, Leads, nothing, taken, skipped, both_ways, then_read, end_read, two_read, leads_then, repeat_step, pieces_read}
+use Rattle.wt_ddl_sentence.proofs.Readings.{IsRead, Follow, Anything, Completes, Leads, then_some, nothing, taken, skipped, both_ways, then_read, end_read, two_read, leads_then, repeat_step, pieces_read}
 use Rattle.wt_ddl_sentence.proofs.Words.{At, then_sign, sign_one, sign_front, one_size, kind_at_word, no_word_at, word_one}
-use Rattle.wt_ddl_sentence.proofs.Targets.{AtClose, then_some, sign_read, Of, then_front, word_read, name_read}
+use Rattle.wt_ddl_sentence.proofs.Targets.{AtClose, sign_read, Of, then_front, word_read, name_read}
 use Rattle.wt_ddl_sentence.proofs.Elements.{AfterElement, element_read, Next_element, more_elements_read, elements_follow}
 use Rattle.wt_ddl_sentence.proofs.Settling.{OfNames, settled_names}
 
@@ -123,7 +123,7 @@ module _ (bytes : List ℕ) where
     table_front a rest P (b, c, e, (t, e', h), q) =
         subst (λ l. at_word bytes (codes "table") (drop 1 (l ++ rest)) ≡ true) (sym (e ∙ ap (λ l. l ++ c) e')) (then_front bytes (codes "table") P c rest q)
 
-    pub statement_read : (tables : _) → Completes (Then (grammar.Create bytes) End) F (spec.statement bytes tables)
+    statement_read : (tables : _) → Completes (Then (grammar.Create bytes) End) F (spec.statement bytes tables)
     unfolding spec.statement
     statement_read tables a rest p f =
         let ts = a ++ rest in

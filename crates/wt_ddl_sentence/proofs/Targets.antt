@@ -1,5 +1,5 @@
 -- What the grammar derives is read: names, types and targets of references.
-use Rattle.std.proofs.Common.{◌≡◌, ◌≢◌, ℕ, ◌≤◌, Bool, true, false, inl, inr, List, [], ◌∷◌, ◌++◌, length, refl, ap, sym, subst, arith, length-append}
+use Rattle.std.proofs.Common.{◌≡◌, ◌≢◌, ℕ, ◌≤◌, Bool, true, false, inl, inr, List, [], ◌∷◌, ◌++◌, length, refl, sym, subst, arith}
 use Rattle.std.specs.Prelude.{if◌then◌else◌, ◌==◌, ◌||◌, codes}
 use Rattle.std.proofs.lemmas.Bool.Decides.{nat_tests}
 use Rattle.wt_lex.specs.declared.token.TokenKind.{TokenKind}
@@ -9,11 +9,8 @@ use Rattle.wt_ddl.specs.Grammar as grammar
 use Rattle.wt_ddl.specs.Grammar.{Part, Then, Either, Maybe, Many, Sign}
 use Rattle.wt_ddl.specs.Reading as spec
 use Rattle.wt_ddl.specs.Reading.{Read, plus, followed}
-use Rattle.wt_ddl_sentence.proofs.Readings.{IsRead, Follow, Anything, Completes, Leads, IsOne, nothing, taken, skipped, then_read, end_read, first_read, first_then_read, first_end_read, leads_then, leads_many, many_read}
+use Rattle.wt_ddl_sentence.proofs.Readings.{IsRead, Follow, Anything, Completes, Leads, IsOne, then_some, nothing, taken, skipped, then_read, end_read, first_read, first_then_read, first_end_read, leads_then, leads_many, many_read}
 use Rattle.wt_ddl_sentence.proofs.Words.{Differ, At, then_sign, sign_one, sign_front, one_size, other_word, kind_at_word, word_one, word_front, no_comma_at_close}
-
-abbrev pub no_value : Unit {0}
-no_value = tt
 
 -- a parenthesis closes behind the part
 abbrev pub AtClose : Follow
@@ -21,9 +18,6 @@ AtClose = At is_close
 
 abbrev pub NotOpen : Follow
 NotOpen ts = at_kind is_open ts ≡ false
-
-pub then_some : (P Q : Part) → IsOne P → (a : Tokens) → Then P Q a → 1 ≤ length a
-then_some P Q one a (b, c, e, p, q) = let (t, f) = one b p in omega (arith, ap length e, ap length f, length-append b c)
 
 pub sign_read : (bytes : List ℕ) (test : TokenKind → Bool) → Completes (Sign test) Anything (spec.symbol bytes test)
 sign_read bytes test a rest p f = taken (at_kind test (a ++ rest)) _ _ (length a) (sign_front test Anything a rest p f) (one_size (Sign test) (sign_one test) a p)

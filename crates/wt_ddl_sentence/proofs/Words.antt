@@ -61,7 +61,7 @@ name_no_word (kinds.Odd f) s w r h = refl
 
 -- ---- the first of the tokens
 
-pub kind_only : (test other : TokenKind → Bool) (ts : Tokens) → ((k : TokenKind) → test k ≡ true → other k ≡ false) → at_kind test ts ≡ true → at_kind other ts ≡ false
+kind_only : (test other : TokenKind → Bool) (ts : Tokens) → ((k : TokenKind) → test k ≡ true → other k ≡ false) → at_kind test ts ≡ true → at_kind other ts ≡ false
 kind_only test other [] d h = refl
 kind_only test other (t ∷ ts) d h = d t.kind h
 
@@ -150,9 +150,6 @@ module _ (bytes : List ℕ) where
 
   pub word_front : (w : List ℕ) (F : Follow) → Leads (Word bytes w) F (λ ts. at_word bytes w ts ≡ true)
   word_front w F a rest (t, e, h) f = subst (λ l. at_word bytes w (l ++ rest) ≡ true) (sym e) h
-
-  pub name_one : IsOne (Name bytes)
-  name_one a (t, e, h) = (t, e)
 
   -- a name is no reserved word
   pub name_front : (w : List ℕ) (F : Follow) → Reserved w → Leads (Name bytes) F (λ ts. at_word bytes w ts ≡ false)

@@ -30,7 +30,7 @@ pub fn read_schema(alloc: Global, bytes: &[u8]) -> Result<Schema, DdlError>
     Ok(Schema { tables })
 }
 
-fn tokens_of(alloc: Global, bytes: &[u8]) -> Result<Tokens, DdlError>
+fn tokens_of<'a>(alloc: Global, bytes: &'a [u8]) -> Result<Tokens<'a>, DdlError>
     ensures { spec.Lexes result (lexed bytes.now) }
 {
     match lex(alloc, bytes) {

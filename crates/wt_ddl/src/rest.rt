@@ -9,7 +9,7 @@ use wt_lex::{Sym, Token, TokenKind, Tokens, is_word};
 /// The tokens from a place on.
 #[derive(Drop)]
 pub(crate) struct Rest<'a> {
-    tokens: &'a Tokens,
+    tokens: &'a Tokens<'a>,
     at: usize,
 }
 
@@ -25,7 +25,7 @@ impl<'a> Model for Rest<'a> {
 }
 
 impl<'a> Rest<'a> {
-    pub(crate) fn new(tokens: &'a Tokens) -> Rest<'a>
+    pub(crate) fn new(tokens: &'a Tokens<'a>) -> Rest<'a>
         ensures { result ≡ tokens.now }
     {
         Rest { tokens, at: 0 }

@@ -48,21 +48,22 @@ by_error : {X : Type 0} (view : X → List Token) (e : LexError) (P : ℕ → Ty
 by_error view errors.Memory P cuts fails so = tt
 by_error view (errors.Fault f place) P cuts fails so = ap open_quote (so place fails.1) ∙ ap (λ g. Err (g, place)) (sym fails.0)
 
-pub cut_next : (out new : List Token) (at n : ℕ) (bytes z : List ℕ) → z ≡ drop at bytes → at < length bytes → n ≡ len_of (front z) → 1 ≤ n
-    → is_closed (front z) ≡ true → new ≡ out ++ made at (front z)
+pub cut_next : (out new : List Token) (at n : ℕ) (bytes : List ℕ) → at < length bytes → n ≡ len_of (front (drop at bytes)) → 1 ≤ n
+    → is_closed (front (drop at bytes)) ≡ true → new ≡ out ++ made at (front (drop at bytes))
     → before new (tokens_from (at + n) 0 (drop (at + n) bytes)) ≡ before out (tokens_from at 0 (drop at bytes))
-cut_next out new at n bytes z here within is positive closed more =
-    let some : 0 < length z = omega (arith, length-drop at bytes, ap length here) in
+cut_next out new at n bytes within is positive closed more =
+    let z = drop at bytes in
+    let some : 0 < length z = omega (arith, length-drop at bytes) in
     ap (λ ts. before ts (tokens_from (at + n) 0 (drop (at + n) bytes))) more
     ∙ before-append out (made at (front z)) _
-    ∙ ap (λ y. before out (before (made at (front z)) (tokens_from (at + n) 0 y))) (sym (drop_more at n bytes) ∙ ap (drop n) (sym here))
-    ∙ ap (before out) (sym (tokens_next at n z some (sym is) positive closed) ∙ ap (tokens_from at 0) here)
+    ∙ ap (λ y. before out (before (made at (front z)) (tokens_from (at + n) 0 y))) (sym (drop_more at n bytes))
+    ∙ ap (before out) (sym (tokens_next at n z some (sym is) positive closed))
 
-pub cut_open : (out : List Token) (at : ℕ) (bytes z : List ℕ) → z ≡ drop at bytes → at < length bytes → is_closed (front z) ≡ false
+pub cut_open : (out : List Token) (at : ℕ) (bytes : List ℕ) → at < length bytes → is_closed (front (drop at bytes)) ≡ false
     → before out (tokens_from at 0 (drop at bytes)) ≡ Err at
-cut_open out at bytes z here within is_open =
-    let some : 0 < length z = omega (arith, length-drop at bytes, ap length here) in
-    ap (before out) (ap (tokens_from at 0) (sym here) ∙ tokens_open at z some is_open)
+cut_open out at bytes within is_open =
+    let some : 0 < length (drop at bytes) = omega (arith, length-drop at bytes) in
+    ap (before out) (tokens_open at (drop at bytes) some is_open)
 
 pub gives_err : {X : Type 0} (view : X → List Token) (r : Result X LexError) (e : LexError) (P : ℕ → Type 0) (cuts : Result (List Token) ℕ)
     → IsErrAnd r (λ y. y ≡ e) → FailsAt {X = ℕ} (Err e) P → ((place : ℕ) → P place → cuts ≡ Err place) → Gives view r (open_quote cuts)

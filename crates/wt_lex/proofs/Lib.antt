@@ -4,4 +4,3 @@ pub mod Naming
 pub mod Numbers
 pub mod Ordering
 pub mod Standing
-pub mod Storing

@@ -2,7 +2,7 @@
 use Rattle.std.proofs.Common.{◌≡◌, ℕ, zero, suc, ◌+◌, ◌-◌, ◌<◌, ◌≤◌, Bool, true, false, ◌⊎◌, inl, inr, List, [], ◌∷◌, ◌++◌, length, take, drop, get_or, refl, ap, sym, ◌∙◌, subst, arith, length-drop, Some, None, Option, Result, Ok, Err}
 use Rattle.std.specs.Prelude.{if◌then◌else◌, ◌==◌, ◌&&◌, nat_lt, slice_index}
 use Rattle.std.specs.Char.{is_ascii_digit}
-use Rattle.std.specs.List.{AllByRecursion}
+use Rattle.std.specs.List.{AllByRecursion, list_all, prefix_len}
 use Rattle.std.specs.Str.{IsAscii}
 use Rattle.std.proofs.lemmas.Bool.{cond_both}
 use Rattle.std.proofs.lemmas.Bool.Decides.{nat_tests}
@@ -11,7 +11,7 @@ use Rattle.std.proofs.lemmas.List.Sums.{prefix_len-le-length, prefix_len_passes}
 use Rattle.std.proofs.lemmas.Str.Ascii.{IsAscii-from_reads}
 use Rattle.wt_lex.specs.declared.front.Class.TheVariants as class
 use Rattle.wt_lex.specs.declared.front.Front.{Front}
-use Rattle.wt_lex.specs.declared.front.Front.TheVariants.{Item}
+use Rattle.wt_lex.specs.declared.front.Front.TheVariants.{Item, Spoiled}
 use Rattle.wt_lex.specs.declared.token.LexFault.TheVariants as fault
 use Rattle.wt_lex.specs.declared.token.Sym.{Sym}
 use Rattle.wt_lex.specs.declared.token.TokenKind.{TokenKind}
@@ -122,9 +122,28 @@ word_stands bytes at some begins =
 
 -- ---- any front
 
-number_stands : (bytes : List ℕ) (at n : ℕ) (ds : List ℕ) → StandsIn bytes (token (number_kind ds) at n)
-number_stands bytes at n ds =
-    cond_both (nat_lt (value ds) past_most) (kinds.Number (value ds)) (kinds.Odd fault.NumberRange) (λ k. StandsIn bytes (token k at n)) (λ e. tt) (λ e. tt)
+all_pass : (p : ℕ → Bool) (xs : List ℕ) → list_all p (take (prefix_len p xs) xs) ≡ true
+all_pass p [] = refl
+all_pass p (x ∷ xs) = by (all_pass p xs) (p x) refl
+  where
+    by : list_all p (take (prefix_len p xs) xs) ≡ true → (t : Bool) → p x ≡ t → list_all p (take (prefix_len p (x ∷ xs)) (x ∷ xs)) ≡ true
+    by rest true e =
+        let one : 1 + prefix_len p xs ≡ suc (prefix_len p xs) = omega arith in
+        rw e (ap (λ n. list_all p (take n (x ∷ xs))) one ∙ ap (λ t. t && list_all p (take (prefix_len p xs) xs)) e ∙ rest)
+    by rest false e = rw e refl
+
+number_stands : (bytes : List ℕ) (at : ℕ) → StandsIn bytes (token (number_kind (take (digits_of (drop at bytes)) (drop at bytes))) at (digits_of (drop at bytes)))
+number_stands bytes at =
+    let z = drop at bytes in
+    let n = digits_of z in
+    let ds = take n z in
+    let back : at + n - at ≡ n = omega arith in
+    cond_both (nat_lt (value ds) past_most) (kinds.Number (value ds)) (kinds.Odd fault.NumberRange) (λ k. StandsIn bytes (token k at n))
+    (λ e. (
+      ap (λ i. list_all is_ascii_digit (take i z)) back ∙ all_pass is_ascii_digit z,
+      ap (λ i. number_kind (take i z)) back ∙ ap (λ t. if t then kinds.Number (value ds) else kinds.Odd fault.NumberRange) e,
+    ))
+    (λ e. tt)
 
 symbol_stands : (bytes : List ℕ) (at : ℕ) (long short : Option Sym) → Front_stands bytes at (longest long short)
 symbol_stands bytes at (Some s) short = (tt, tt)
@@ -144,8 +163,8 @@ front_stands bytes at some =
     (λ _. cond_both (begins_word (slice_index z 0)) _ _ P (λ e. (word_stands bytes at some e, tt))
     (λ _. cond_both (is_ascii_digit (slice_index z 0)) _ _ P
     (λ _. cond_both (spoils (slice_index z (digits_of z))) _ _ P
-    (λ _. (number_stands bytes at (digits_of z) (take (digits_of z) z), (tt, tt)))
-    (λ _. (number_stands bytes at (digits_of z) (take (digits_of z) z), tt)))
+    (λ _. (number_stands bytes at, (tt, tt)))
+    (λ _. (number_stands bytes at, tt)))
     (λ _. cond_both (slice_index z 0 == 34) _ _ P
     (λ e. let opens : get_or z 0 0 ≡ 34 = grind (arith, nat_tests) in name_stands_at bytes at (closing 34 false 1 (drop 1 z)) (λ n is. closes 34 n z is some) opens)
     (λ _. cond_both (slice_index z 0 == 39) _ _ P
@@ -153,6 +172,12 @@ front_stands bytes at some =
     (λ _. cond_both (slice_index z 0 == 45 && slice_index z 1 == 45) _ _ P (λ _. tt)
     (λ _. cond_both (slice_index z 0 == 47 && slice_index z 1 == 42) _ _ P (λ _. comment_stands bytes at (comment_end false 2 (drop 2 z)))
     (λ _. symbol_stands bytes at (long_symbol (slice_index z 0) (slice_index z 1)) (short_symbol (slice_index z 0)))))))))
+
+pub item_stands : (bytes : List ℕ) (at n : ℕ) (k : TokenKind) → at < length bytes → Item k n ≡ front (drop at bytes) → StandsIn bytes (token k at n)
+item_stands bytes at n k within is = (subst (Front_stands bytes at) (sym is) (front_stands bytes at (omega (arith, length-drop at bytes)))).0
+
+pub spoiled_stands : (bytes : List ℕ) (at n : ℕ) (k : TokenKind) → at < length bytes → Spoiled k n ≡ front (drop at bytes) → StandsIn bytes (token k at n)
+spoiled_stands bytes at n k within is = (subst (Front_stands bytes at) (sym is) (front_stands bytes at (omega (arith, length-drop at bytes)))).0
 
 -- ---- all tokens
 

@@ -79,7 +79,7 @@ fn number_of(digits: &[u8]) -> u64
     n
 }
 
-fn number_kind(digits: &[u8]) -> TokenKind
+pub(crate) fn number_kind(digits: &[u8]) -> TokenKind
     ensures { result ≡ spec.number_kind digits.now }
 {
     let n = number_of(digits);

@@ -136,7 +136,7 @@ fn inside(bytes: &[u8], token: Token) -> &[u8]
 }
 
 // The bytes from a place to before another, as far as there are some.
-fn piece(bytes: &[u8], from: usize, to: usize) -> &[u8]
+pub(crate) fn piece(bytes: &[u8], from: usize, to: usize) -> &[u8]
     ensures { result.now ≡ spec.piece bytes.now from to }
 {
     let (_, rest) = bytes.split_at(from.min(bytes.len()));

@@ -74,16 +74,6 @@ fn texts_fall_into_tokens(rt: HostRuntime) {
     assert!(rt;
         kinds_are(
             alloc,
-            "9223372036854775808 9223372036854775809",
-            &[
-                (TokenKind::Number(9_223_372_036_854_775_808), 0, 19),
-                (TokenKind::Odd(LexFault::NumberRange), 20, 39)
-            ]
-        )
-    );
-    assert!(rt;
-        kinds_are(
-            alloc,
             "\u{e9}-",
             &[
                 (bad, 0, 1),
@@ -92,13 +82,59 @@ fn texts_fall_into_tokens(rt: HostRuntime) {
             ]
         )
     );
+}
+
+// Whether these digits have the value at the start, in the middle and at the end of a text.
+fn number_is(alloc: Global, digits: &str, value: u64) -> Result<bool, AllocError> {
+    let text = format!(in alloc; "{digits} a {digits} b {digits}")?;
+    match lex(alloc, text.as_bytes()) {
+        Err(_) => Ok(false),
+        Ok(tokens) => {
+            let number = TokenKind::Number(value);
+            Ok(
+                tokens.len() == 5
+                    && tokens.get(0).kind == number
+                    && tokens.get(2).kind == number
+                    && tokens.get(4).kind == number,
+            )
+        }
+    }
+}
+
+#[test]
+fn numbers_have_their_values(rt: HostRuntime) -> Result<(), AllocError> {
+    let alloc = rt.alloc();
+    for (digits, value) in [
+        ("0", 0),
+        ("007", 7),
+        ("4294967295", 4_294_967_295),
+        ("4294967296", 4_294_967_296),
+        ("00004294967296", 4_294_967_296),
+        ("9223372036854775807", 9_223_372_036_854_775_807),
+        ("9223372036854775808", 9_223_372_036_854_775_808),
+        ("0000000000009223372036854775808", 9_223_372_036_854_775_808),
+    ] {
+        assert!(rt; number_is(alloc, digits, value)?, "{digits}");
+    }
     assert!(rt;
         kinds_are(
             alloc,
-            "4294967296",
-            &[(TokenKind::Number(4_294_967_296), 0, 10)]
+            "9223372036854775809",
+            &[(TokenKind::Odd(LexFault::NumberRange), 0, 19)]
         )
     );
+    assert!(rt;
+        kinds_are(
+            alloc,
+            "4294967296x 4294967297",
+            &[
+                (TokenKind::Number(4_294_967_296), 0, 10),
+                (TokenKind::Odd(LexFault::BadCharacter), 10, 11),
+                (TokenKind::Number(4_294_967_297), 12, 22)
+            ]
+        )
+    );
+    Ok(())
 }
 
 #[test]

@@ -14,7 +14,7 @@ use std::marker::Model;
 use wt_ast::{Counted, Query};
 use wt_grammar::{Lexeme, QueryFault};
 use wt_lex::{LexError, Sym, Token, TokenKind, Tokens, lex};
-use wt_value::{Bytes, WantOfMemory};
+use wt_value::WantOfMemory;
 
 /// The greatest length of a statement, in bytes.
 const MOST_BYTES: u32 = 65_536;
@@ -27,15 +27,15 @@ struct Piece {
     end: u32,
 }
 
-/// The statements of a file, with its bytes. Contracts see it as these bytes and statements.
+/// The statements of a file, whose bytes it borrows. Contracts see it as these bytes and statements.
 #[derive(Debug, Drop)]
-pub struct Queries {
-    bytes: Bytes,
-    tokens: Tokens,
+pub struct Queries<'a> {
+    bytes: &'a [u8],
+    tokens: Tokens<'a>,
     pieces: Vec<Piece>,
 }
 
-impl Model for Queries {
+impl<'a> Model for Queries<'a> {
     ghost use Rattle.std.specs.Prelude.{map};
     ghost use Rattle.std.specs.List.{All};
     ghost use Rattle.wt_grammar.specs.Statements.{File};
@@ -43,7 +43,7 @@ impl Model for Queries {
 
     ghost Value = { File };
 
-    ghost view = { λ q. record { bytes = q.bytes; statements = map (shown q.tokens) q.pieces.items } };
+    ghost view = { λ q. record { bytes = q.bytes.now; statements = map (shown q.tokens) q.pieces.items } };
 
     ghost invariant = { λ q. All (Holds q.tokens) q.pieces.items };
 }
@@ -98,14 +98,13 @@ fn cut(alloc: Global, tokens: &Tokens, size: u32) -> Result<Vec<Piece>, WantOfMe
 
 /// The statements of a file: its tokens, cut at each semicolon; empty statements are skipped. A file that does not fall into
 /// tokens is refused.
-pub fn read_queries(alloc: Global, bytes: &[u8]) -> Result<Queries, LexError>
+pub fn read_queries<'a>(alloc: Global, bytes: &'a [u8]) -> Result<Queries<'a>, LexError>
     ensures exact { Reads (λ q. q) result (spec.file_of bytes.now) }
     // Each statement has a byte, so their number fits in 32 bits.
     ensures few { IfOk result (λ q. length q.statements ≤ 16777216) }
 {
     let tokens = lex(alloc, bytes)?;
     let pieces = cut(alloc, &tokens, bytes.len() as u32)?;
-    let bytes = Bytes::from_vec(Vec::from_slice(alloc, bytes)?);
     Ok(Queries {
         bytes,
         tokens,
@@ -113,7 +112,7 @@ pub fn read_queries(alloc: Global, bytes: &[u8]) -> Result<Queries, LexError>
     })
 }
 
-impl Queries {
+impl<'a> Queries<'a> {
     /// The number of statements. It stands at the greatest `u32` where it would pass it.
     pub fn count(&self) -> u32
         ensures { result ≡ min (2 ^ 32 - 1) (length self.now.statements) }
@@ -135,7 +134,7 @@ impl Queries {
         ensures exact { (s : spec.Statement) → slice_get self.now.statements n ≡ Some s → Answers result (spec.answer self.now.bytes s) }
     {
         let piece = self.pieces[n as usize];
-        answer(alloc, self.bytes.as_slice(), &self.tokens, piece)
+        answer(alloc, self.bytes, &self.tokens, piece)
     }
 }
 

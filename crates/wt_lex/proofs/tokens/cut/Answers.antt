@@ -1,37 +1,32 @@
 use Rattle.std.proofs.Common.{◌≡◌, ◌∙◌, sym, ap, arith, length-drop, drop, append-nil, Ok, Err, false}
+use Rattle.std.specs.Prelude.{map}
 use Rattle.wt_lex.specs.Fronts as spec
-use Rattle.wt_lex.specs.Stored.{shown_all}
+use Rattle.wt_lex.specs.Stored.{shown}
 use Rattle.wt_lex.specs.Tokens as tokens
 use Rattle.wt_lex.proofs.Cutting.{cut_next, cut_open, gives_err, tokens_none}
-use Rattle.wt_lex.proofs.Storing.{length-shown_all}
 use Rattle.wt_lex.proofs.tokens.cut.Goals as goal
 
 pub returns-in_err-at-clause-exact : goal.returns-in_err-at-clause-exact
 returns-in_err-at-clause-exact c =
-    gives_err (λ v. v) c.from_residual.result c.in_err-at.field-0.0 (λ place. (tokens.is_closed (spec.front c.split_at.result.1.now) ≡ false) × (place ≡ c.fronts.at)) _
+    gives_err (λ v. v) c.from_residual.result c.in_err-at.field-0.0 (λ place. (tokens.is_closed (spec.front (drop c.fronts.at c.args.text.now)) ≡ false) × (place ≡ c.fronts.at)) _
     c.from_residual.ensures.1
     c.in_err-at.ensures.err
-    (λ place h. sym c.fronts.invariant.exact ∙ cut_open (shown_all c.fronts.great.items c.fronts.stored.items) c.fronts.at c.args.bytes.now c.split_at.result.1.now c.split_at.ensures.back c.fronts-test.true h.0 ∙ ap Err (sym h.1))
+    (λ place h. sym c.fronts.invariant.exact ∙ cut_open (map (shown c.args.text.now) c.fronts.stored.items) c.fronts.at c.args.text.now c.fronts-test.true h.0 ∙ ap Err (sym h.1))
 
 pub fronts-preserved : goal.fronts-preserved
 fronts-preserved c =
     let ok = c.in_ok-at.ensures.ok in
-    let len = c.split_at.ensures.back_len in
+    let show = map (shown c.args.text.now) in
     record {
-      exact = cut_next (shown_all c.fronts.great.items c.fronts.stored.items) (shown_all c.step.new.great.items c.step.new.stored.items) c.fronts.at c.in_ok-at.field-0 c.args.bytes.now c.split_at.result.1.now c.split_at.ensures.back c.fronts-test.true ok.0 ok.4 ok.1 ok.2
+      exact = cut_next (show c.fronts.stored.items) (show c.step.new.stored.items) c.fronts.at c.in_ok-at.field-0 c.args.text.now c.fronts-test.true ok.0 ok.3 ok.1 ok.2
           ∙ c.fronts.invariant.exact;
-      fit = ok.3;
-      few = ok.6;
       each = omega (arith, c.in_ok-at.ensures.few);
-      within = omega arith;
+      within = ok.4;
     }
 
 pub returns-clause-exact : goal.returns-clause-exact
 returns-clause-exact c =
     ap tokens.open_quote
     (sym c.fronts.invariant.exact
-    ∙ ap (tokens.before (shown_all c.fronts.great.items c.fronts.stored.items)) (tokens_none c.fronts.at (drop c.fronts.at c.args.bytes.now) (omega (arith, length-drop c.fronts.at c.args.bytes.now)))
-    ∙ ap Ok (append-nil (shown_all c.fronts.great.items c.fronts.stored.items)))
-
-pub returns-clause-few : goal.returns-clause-few
-returns-clause-few c = rw (length-shown_all c.fronts.great.items c.fronts.stored.items) (omega arith)
+    ∙ ap (tokens.before (map (shown c.args.text.now) c.fronts.stored.items)) (tokens_none c.fronts.at (drop c.fronts.at c.args.text.now) (omega (arith, length-drop c.fronts.at c.args.text.now)))
+    ∙ ap Ok (append-nil (map (shown c.args.text.now) c.fronts.stored.items)))

@@ -1,16 +1,15 @@
 use Rattle.std.proofs.Common.{◌≡◌, ◌-◌, ◌≤◌, length, drop}
-use Rattle.wt_lex.specs.Stored.{shown_all, AllFit}
+use Rattle.std.specs.Prelude.{map}
+use Rattle.wt_lex.specs.Stored.{shown}
 use Rattle.wt_lex.specs.Tokens.{before, tokens_from}
 use Rattle.wt_lex.proofs.tokens.cut.Given as goal
 
 abbrev pub invariant-fronts : goal.invariant-fronts
 invariant-fronts l = record {
-  exact : before (shown_all l.great.items l.stored.items) (tokens_from l.at 0 (drop l.at l.bytes)) ≡ tokens_from 0 0 l.bytes;
-  fit : AllFit l.great.items l.stored.items;
-  few : length l.great.items ≤ l.at;
+  exact : before (map (shown l.text) l.stored.items) (tokens_from l.at 0 (drop l.at l.text)) ≡ tokens_from 0 0 l.text;
   each : length l.stored.items ≤ l.at;
-  within : l.at ≤ length l.bytes;
+  within : l.at ≤ length l.text;
 }
 
 abbrev pub decreases-fronts : goal.decreases-fronts
-decreases-fronts l = length l.bytes - l.at
+decreases-fronts l = length l.text - l.at

@@ -78,7 +78,7 @@ module _ (end : ℕ) (bytes : List ℕ) where
       let (k, p, shown) = subst (Gives end bytes 0 (statement_with end bytes 32) ts) h (statement_local 32 ts) in
       (take k ts, drop k ts, sym (take-append-drop k ts), p, by k shown)
     where
-      by : (k : ℕ) → Refuses end bytes 0 (statement_with end bytes 32) ts why k → Ends end bytes why (take k ts) (drop k ts)
+      by : (k : ℕ) → Refuses end bytes 0 (statement_with end bytes 32) ts why k (drop k ts) → Ends end bytes why (take k ts) (drop k ts)
       by k (inr r) = inr r
       by k (inl (l, fails)) = inl (λ levels q next speaks same p.
-          none_goes_on why levels q (take k ts ++ next) speaks (fails (take k ts ++ next) (agree_before k (looked why) next ts (some_looked why) same)) p)
+          none_goes_on why levels q (take k ts ++ next) speaks (fails (take k ts ++ next) (agree_before k (looked why (kind (drop k ts))) next ts (some_looked why (kind (drop k ts))) same)) p)

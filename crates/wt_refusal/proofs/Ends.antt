@@ -10,7 +10,7 @@ use Rattle.wt_grammar.specs.Reading.{Read, Refusal, refused, odd, plus, followed
 use Rattle.wt_sentence.proofs.Complete.{statement_with, complete_with}
 use Rattle.wt_refusal.specs.Refused.{looked, Speaks, IsSentence, Ends, Parts}
 use Rattle.wt_refusal.proofs.Levels.{IsTooDeep, more_levels}
-use Rattle.wt_refusal.proofs.Local.{Agree, too_deep, refuses, some_looked, LocalAt, Local, Gives, Refuses, value_at, less_at, test_at, behind_at, then_at}
+use Rattle.wt_refusal.proofs.Local.{Agree, too_deep, refuses, some_looked, LocalAt, Local, Gives, Refuses, value_at, test_at, next_at, then_at}
 use Rattle.wt_refusal.proofs.LocalParts.{by_kind}
 use Rattle.wt_refusal.proofs.LocalQueries.{local_below, body_local}
 
@@ -34,10 +34,10 @@ module _ (end : ℕ) (bytes : List ℕ) where
   statement_local levels ts =
       let body = read.body end bytes (read.nest end bytes levels) in
       test_at end bytes is_select 0 0 (λ us. plus 1 (followed (drop 1 us) (body (drop 1 us)) ends_here)) (λ us. read.no end (no_statement (kind us)) us) ts (omega arith)
-      (λ s. less_at end bytes 0 1 _ ts (omega arith) (behind_at end bytes 1 0 (λ l. followed l (body l) ends_here) ts
+      (λ s. next_at end bytes (λ l. followed l (body l) ends_here) ts
       (then_at end bytes 0 body ends_here (drop 1 ts) (body_local end bytes (read.nest end bytes levels) (local_below end bytes levels) (drop 1 ts)) (λ q m e.
       test_at end bytes is_end 0 0 (λ r. Ok (q, 0)) (λ r. read.no end (no_query_end q (kind r)) r) (drop m (drop 1 ts)) (omega arith) (λ s. value_at end bytes 0 0 q (drop m (drop 1 ts)) (omega arith))
-      (λ s. by_kind end bytes QueryTree (no_query_end q) (drop m (drop 1 ts)))))))
+      (λ s. by_kind end bytes QueryTree (no_query_end q) (drop m (drop 1 ts))))))
       (λ s. by_kind end bytes QueryTree no_statement ts)
 
   -- a sentence is read with as many levels as it has, and with more

@@ -199,6 +199,9 @@ module _ (end : ℕ) (bytes : List ℕ) where
       )
       by (Err e) (k, p, inr (w, r)) = moved_at (j + d) (λ us. plus j (q (drop j us))) ts e j k (p, inr (w, no_tuple_left j k ts (drop k (drop j ts)) r))
 
+  pub next_at : {A : Type 0} (q : Tokens → Read A) (ts : Tokens) → LocalAt 0 q (drop 1 ts) → LocalAt 0 (λ us. plus 1 (q (drop 1 us))) ts
+  next_at q ts local = less_at 0 1 (λ us. plus 1 (q (drop 1 us))) ts (omega arith) (behind_at 1 0 q ts local)
+
   -- a reading, and what follows it
   pub then_at : {A B : Type 0} (d : ℕ) (part : Tokens → Read A) (g : A → Tokens → Read B) (ts : Tokens) → LocalAt d part ts → ((x : A) (m : ℕ) → part ts ≡ Ok (x, m) → LocalAt 0 (g x) (drop m ts))
       → LocalAt d (λ us. followed us (part us) g) ts

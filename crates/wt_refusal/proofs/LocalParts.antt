@@ -21,7 +21,7 @@ use Rattle.wt_grammar.specs.Reading as read
 use Rattle.wt_grammar.specs.Reading.{Read, Refusal, refused, odd, plus, followed, taken, joined_to, more, list, run, one_or, expect, ended, ended_by, within, name_at, text_at, name_only}
 use Rattle.wt_sentence.proofs.Inversions.{skip}
 use Rattle.wt_refusal.specs.Refused.{looked}
-use Rattle.wt_refusal.proofs.Local.{AtFront, kind_front, place_front, some_looked, agree_front, LocalAt, Local, too_deep, value_at, refusal_at, table_at, less_at, as_at, seen_at, test_at, behind_at, then_at, last_at}
+use Rattle.wt_refusal.proofs.Local.{AtFront, kind_front, place_front, some_looked, agree_front, LocalAt, Local, too_deep, value_at, refusal_at, table_at, less_at, as_at, seen_at, test_at, behind_at, next_at, then_at, last_at}
 
 -- a separator, the part behind it, and more
 abbrev turn : {A : Type 0} → (Kind → Bool) → (Tokens → Read A) → Tokens → Read (List A)
@@ -73,9 +73,9 @@ module _ (end : ℕ) (bytes : List ℕ) where
     one_more ts ih =
         as_at end bytes 0 (more sep part 0) (λ us. if sep (kind us) then plus 1 (turn sep part (drop 1 us)) else Ok ([], 0)) ts (λ us a. more_as sep part sep_end us)
         (test_at end bytes sep 0 0 (λ us. plus 1 (turn sep part (drop 1 us))) (λ us. Ok ([], 0)) ts (omega arith) (λ s.
-        less_at end bytes 0 1 (λ us. plus 1 (turn sep part (drop 1 us))) ts (omega arith) (behind_at end bytes 1 0 (turn sep part) ts
+        next_at end bytes (turn sep part) ts
         (then_at end bytes 0 part _ (drop 1 ts) (local (drop 1 ts)) (λ x m e. last_at end bytes 0 (more sep part 0) (λ xs. x ∷ xs) (drop m (drop 1 ts)) (ih (drop m (drop 1 ts))
-        (omega (arith, some_there sep sep_end ts s, length-drop m (drop 1 ts), length-drop 1 ts)))))))
+        (omega (arith, some_there sep sep_end ts s, length-drop m (drop 1 ts), length-drop 1 ts))))))
         (λ s. value_at end bytes 0 0 [] ts (omega arith)))
 
     more_to : (bound : ℕ) (ts : Tokens) → length ts ≤ bound → LocalAt end bytes 0 (more sep part 0) ts
@@ -272,7 +272,7 @@ module _ (end : ℕ) (bytes : List ℕ) where
   unfolding read.alias placed_name
   alias_local ts =
       test_at end bytes is_as 0 0 (λ us. plus 1 (placed_name (drop 1 us))) (λ us. if is_name (kind us) then placed_name us else Ok (None, 0)) ts (omega arith)
-      (λ s. less_at end bytes 0 1 _ ts (omega arith) (behind_at end bytes 1 0 placed_name ts (placed_name_local (drop 1 ts))))
+      (λ s. next_at end bytes placed_name ts (placed_name_local (drop 1 ts)))
       (λ s. test_at end bytes is_name 0 0 placed_name (λ us. Ok (None, 0)) ts (omega arith) (λ s. placed_name_local ts) (λ s. value_at end bytes 0 0 None ts (omega arith)))
 
   -- a column and its alias, or no item

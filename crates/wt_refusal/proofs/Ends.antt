@@ -10,7 +10,7 @@ use Rattle.wt_grammar.specs.Reading.{Read, Refusal, refused, odd, plus, followed
 use Rattle.wt_sentence.proofs.Complete.{statement_with, complete_with}
 use Rattle.wt_refusal.specs.Refused.{looked, Speaks, IsSentence, Ends, Parts}
 use Rattle.wt_refusal.proofs.Levels.{IsTooDeep, more_levels}
-use Rattle.wt_refusal.proofs.Local.{Agree, too_deep, refuses, some_looked, LocalAt, Local, Gives, Refuses, value_at, less_at, test_at, behind_at, then_at}
+use Rattle.wt_refusal.proofs.Local.{Agree, too_deep, refuses, some_looked, LocalAt, Local, Gives, Refuses, value_at, test_at, next_at, then_at}
 use Rattle.wt_refusal.proofs.LocalParts.{by_kind}
 use Rattle.wt_refusal.proofs.LocalQueries.{local_below, body_local}
 
@@ -34,10 +34,10 @@ module _ (end : ℕ) (bytes : List ℕ) where
   statement_local levels ts =
       let body = read.body end bytes (read.nest end bytes levels) in
       test_at end bytes is_select 0 0 (λ us. plus 1 (followed (drop 1 us) (body (drop 1 us)) ends_here)) (λ us. read.no end (no_statement (kind us)) us) ts (omega arith)
-      (λ s. less_at end bytes 0 1 _ ts (omega arith) (behind_at end bytes 1 0 (λ l. followed l (body l) ends_here) ts
+      (λ s. next_at end bytes (λ l. followed l (body l) ends_here) ts
       (then_at end bytes 0 body ends_here (drop 1 ts) (body_local end bytes (read.nest end bytes levels) (local_below end bytes levels) (drop 1 ts)) (λ q m e.
       test_at end bytes is_end 0 0 (λ r. Ok (q, 0)) (λ r. read.no end (no_query_end q (kind r)) r) (drop m (drop 1 ts)) (omega arith) (λ s. value_at end bytes 0 0 q (drop m (drop 1 ts)) (omega arith))
-      (λ s. by_kind end bytes QueryTree (no_query_end q) (drop m (drop 1 ts)))))))
+      (λ s. by_kind end bytes QueryTree (no_query_end q) (drop m (drop 1 ts))))))
       (λ s. by_kind end bytes QueryTree no_statement ts)
 
   -- a sentence is read with as many levels as it has, and with more
@@ -78,7 +78,7 @@ module _ (end : ℕ) (bytes : List ℕ) where
       let (k, p, shown) = subst (Gives end bytes 0 (statement_with end bytes 32) ts) h (statement_local 32 ts) in
       (take k ts, drop k ts, sym (take-append-drop k ts), p, by k shown)
     where
-      by : (k : ℕ) → Refuses end bytes 0 (statement_with end bytes 32) ts why k → Ends end bytes why (take k ts) (drop k ts)
+      by : (k : ℕ) → Refuses end bytes 0 (statement_with end bytes 32) ts why k (drop k ts) → Ends end bytes why (take k ts) (drop k ts)
       by k (inr r) = inr r
       by k (inl (l, fails)) = inl (λ levels q next speaks same p.
-          none_goes_on why levels q (take k ts ++ next) speaks (fails (take k ts ++ next) (agree_before k (looked why) next ts (some_looked why) same)) p)
+          none_goes_on why levels q (take k ts ++ next) speaks (fails (take k ts ++ next) (agree_before k (looked why (kind (drop k ts))) next ts (some_looked why (kind (drop k ts))) same)) p)

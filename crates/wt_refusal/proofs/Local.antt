@@ -3,7 +3,9 @@
 use Rattle.std.proofs.Common.{◌≡◌, ℕ, suc, ◌+◌, ◌≤◌, ◌<◌, ◌⊎◌, inl, inr, Bool, true, false, List, [], ◌∷◌, ◌++◌, take, drop, refl, ap, sym, ◌∙◌, arith, append_assoc, Ok, Err, subst, take-take, take-add, drop-drop}
 use Rattle.std.proofs.lemmas.List.{drop-take}
 use Rattle.std.specs.Prelude.{if◌then◌else◌, ◌||◌, not}
+use Rattle.wt_lex.specs.declared.token.Sym.TheVariants as sym
 use Rattle.wt_grammar.specs.declared.lexeme.Kind.{Kind}
+use Rattle.wt_grammar.specs.declared.lexeme.Kind.TheVariants.{Mark}
 use Rattle.wt_grammar.specs.declared.fault.QueryFault.TheVariants as fault
 use Rattle.wt_grammar.specs.Lexemes.{Tokens, kind, place}
 use Rattle.wt_grammar.specs.Reading.{Read, Refusal, refused, odd, plus, followed}
@@ -36,12 +38,12 @@ pub place_front : (end : ℕ) → AtFront (place end)
 place_front end [] = refl
 place_front end (t ∷ l) = refl
 
-pub some_looked : (why : Refusal) → 1 ≤ looked why
-some_looked (refused fault.Arithmetic) = omega arith
-some_looked (refused fault.Subquery) = omega arith
-some_looked (refused fault.NotInSubquery) = omega arith
-some_looked (refused _) = omega arith
-some_looked (odd f) = omega arith
+pub some_looked : (why : Refusal) (k : Kind) → 1 ≤ looked why k
+some_looked (refused fault.Arithmetic) (Mark sym.Minus) = omega arith
+some_looked (refused fault.Subquery) k = omega arith
+some_looked (refused fault.NotInSubquery) k = omega arith
+some_looked (refused f) k = omega arith
+some_looked (odd f) k = omega arith
 
 -- refused for want of a level
 abbrev pub too_deep : Refusal → Bool
@@ -74,23 +76,21 @@ refuses_followed deep ts (Ok x) g h = absurd cc
 refuses_followed deep ts (Err e) g h = h
 
 module _ (end : ℕ) (bytes : List ℕ) where
-  no_tuple_left : (m k : ℕ) (ts : Tokens) → IsNoTuple end bytes (take k (drop m ts)) (drop k (drop m ts)) → IsNoTuple end bytes (take (m + k) ts) (drop (m + k) ts)
-  no_tuple_left m k ts (a, t, b, c, e, opens, col, next) =
-      let behind : drop k (drop m ts) ≡ drop (m + k) ts = drop-drop k m ts in
-      subst (λ z. IsNoTuple end bytes (take (m + k) ts) z) behind
+  no_tuple_left : (m k : ℕ) (ts behind : Tokens) → IsNoTuple end bytes (take k (drop m ts)) behind → IsNoTuple end bytes (take (m + k) ts) behind
+  no_tuple_left m k ts behind (a, t, b, c, e, opens, col, next) =
       (take m ts ++ a, t, b, c, take-add m k ts ∙ ap (λ z. take m ts ++ z) e ∙ sym (append_assoc (take m ts) a (t ∷ b)), opens, col, next)
 
   -- Of a refusal at the k-th token: whatever begins with the tokens that show it is refused, or it is where a parenthesis
   -- turns out to be no tuple. It shows no sooner than behind d tokens.
-  abbrev pub Refuses : {A : Type 0} → ℕ → (Tokens → Read A) → Tokens → Refusal → ℕ → Type 0
-  Refuses d part ts why k =
-      ((d < k + looked why) × ((us : Tokens) → Agree (k + looked why) us ts → refuses (too_deep why) (part us) ≡ true))
-      ⊎ ((why ≡ refused fault.Syntax) × IsNoTuple end bytes (take k ts) (drop k ts))
+  abbrev pub Refuses : {A : Type 0} → ℕ → (Tokens → Read A) → Tokens → Refusal → ℕ → Tokens → Type 0
+  Refuses d part ts why k behind =
+      ((d < k + looked why (kind behind)) × ((us : Tokens) → Agree (k + looked why (kind behind)) us ts → refuses (too_deep why) (part us) ≡ true))
+      ⊎ ((why ≡ refused fault.Syntax) × IsNoTuple end bytes (take k ts) behind)
 
   -- what a reading that answers so owes
   abbrev pub Gives : {A : Type 0} → ℕ → (Tokens → Read A) → Tokens → Read A → Type 0
   Gives d part ts (Ok x) = (d ≤ x.1) × ((us : Tokens) → Agree (suc x.1) us ts → part us ≡ Ok x)
-  Gives d part ts (Err e) = (k : ℕ) × (e.1 ≡ place end (drop k ts)) × Refuses d part ts e.0 k
+  Gives d part ts (Err e) = (k : ℕ) × (e.1 ≡ place end (drop k ts)) × Refuses d part ts e.0 k (drop k ts)
 
   -- what is read of these tokens depends on those that were taken, d or more, and the one behind them
   unfoldable pub LocalAt : {A : Type 0} → ℕ → (Tokens → Read A) → Tokens → Type 0
@@ -105,12 +105,12 @@ module _ (end : ℕ) (bytes : List ℕ) where
   value_at d n x ts h = (h, λ us a. refl)
 
   -- refused, whatever stands behind
-  pub refusal_at : (A : Type 0) (d k : ℕ) (why : Refusal) (ts : Tokens) → d < k + looked why → LocalAt {A = A} d (λ us. Err (why, place end (drop k us))) ts
+  pub refusal_at : (A : Type 0) (d k : ℕ) (why : Refusal) (ts : Tokens) → d < k + looked why (kind (drop k ts)) → LocalAt {A = A} d (λ us. Err (why, place end (drop k us))) ts
   unfolding LocalAt
   refusal_at A d k why ts h = (k, refl, inl (h, λ us a. refuses_same why))
 
   -- refused by a table of what has a level
-  pub table_at : (A : Type 0) (d k : ℕ) (why : Tokens → Refusal) (ts : Tokens) → d < k + looked (why ts) → ((us : Tokens) → too_deep (why us) ≡ false) → LocalAt {A = A} d (λ us. Err (why us, place end (drop k us))) ts
+  pub table_at : (A : Type 0) (d k : ℕ) (why : Tokens → Refusal) (ts : Tokens) → d < k + looked (why ts) (kind (drop k ts)) → ((us : Tokens) → too_deep (why us) ≡ false) → LocalAt {A = A} d (λ us. Err (why us, place end (drop k us))) ts
   unfolding LocalAt
   table_at A d k why ts h never = (k, refl, inl (h, λ us a. refuses_any (too_deep (why ts)) (why us) (never us)))
 
@@ -118,11 +118,11 @@ module _ (end : ℕ) (bytes : List ℕ) where
   pub barred_at : {A : Type 0} (part : Tokens → Read A) (why : Refusal) (ts : Tokens) → part ts ≡ Err (why, place end ts) → ((us : Tokens) → Agree 1 us ts → refuses (too_deep why) (part us) ≡ true) → LocalAt 0 part ts
   unfolding LocalAt
   barred_at part why ts e h =
-      subst (Gives 0 part ts) (sym e) (0, refl, inl (omega (arith, some_looked why), λ us a. h us (agree_less 1 (0 + looked why) us ts (omega (arith, some_looked why)) a)))
+      subst (Gives 0 part ts) (sym e) (0, refl, inl (omega (arith, some_looked why (kind ts)), λ us a. h us (agree_less 1 (0 + looked why (kind ts)) us ts (omega (arith, some_looked why (kind ts))) a)))
 
-  less_refuses : {A : Type 0} (d m : ℕ) (part : Tokens → Read A) (ts : Tokens) (why : Refusal) (k : ℕ) → d ≤ m → Refuses m part ts why k → Refuses d part ts why k
-  less_refuses d m part ts why k h (inl (l, r)) = inl (omega (arith, h, l), r)
-  less_refuses d m part ts why k h (inr r) = inr r
+  less_refuses : {A : Type 0} (d m : ℕ) (part : Tokens → Read A) (ts : Tokens) (why : Refusal) (k : ℕ) (behind : Tokens) → d ≤ m → Refuses m part ts why k behind → Refuses d part ts why k behind
+  less_refuses d m part ts why k behind h (inl (l, r)) = inl (omega (arith, h, l), r)
+  less_refuses d m part ts why k behind h (inr r) = inr r
 
   pub less_at : {A : Type 0} (d m : ℕ) (part : Tokens → Read A) (ts : Tokens) → d ≤ m → LocalAt m part ts → LocalAt d part ts
   unfolding LocalAt
@@ -130,7 +130,7 @@ module _ (end : ℕ) (bytes : List ℕ) where
     where
       by : (r : Read A) → Gives m part ts r → Gives d part ts r
       by (Ok x) (l, s) = (omega (arith, h, l), s)
-      by (Err e) (k, p, r) = (k, p, less_refuses d m part ts e.0 k h r)
+      by (Err e) (k, p, r) = (k, p, less_refuses d m part ts e.0 k (drop k ts) h r)
 
   -- of a value the depth is known
   pub deep_at : {A : Type 0} (d m : ℕ) (x : A) (part : Tokens → Read A) (ts : Tokens) → part ts ≡ Ok (x, m) → LocalAt d part ts → LocalAt m part ts
@@ -154,7 +154,7 @@ module _ (end : ℕ) (bytes : List ℕ) where
     where
       by : (r : Read A) → Gives d q ts r → Gives d part ts r
       by (Ok x) (l, s) = (l, λ us a. same us (agree_less (suc d) (suc x.1) us ts (omega (arith, l)) a) ∙ s us a)
-      by (Err e) (k, p, inl (l, s)) = (k, p, inl (l, λ us a. ap (refuses (too_deep e.0)) (same us (agree_less (suc d) (k + looked e.0) us ts (omega (arith, l)) a)) ∙ s us a))
+      by (Err e) (k, p, inl (l, s)) = (k, p, inl (l, λ us a. ap (refuses (too_deep e.0)) (same us (agree_less (suc d) (k + looked e.0 (kind (drop k ts))) us ts (omega (arith, l)) a)) ∙ s us a))
       by (Err e) (k, p, inr r) = (k, p, inr r)
 
   -- a reading that looks at what the tokens behind the first j begin with
@@ -172,6 +172,11 @@ module _ (end : ℕ) (bytes : List ℕ) where
       by true e = holds e
       by false e = fails e
 
+  -- a refusal at the k-th token behind the first m
+  moved_at : {A : Type 0} (d : ℕ) (part : Tokens → Read A) (ts : Tokens) (e : Refusal × ℕ) (m k : ℕ)
+      → (e.1 ≡ place end (drop k (drop m ts))) × Refuses d part ts e.0 (m + k) (drop k (drop m ts)) → Gives d part ts (Err e)
+  moved_at d part ts e m k r = let (p, s) = subst (λ l. (e.1 ≡ place end l) × Refuses d part ts e.0 (m + k) l) (drop-drop k m ts) r in (m + k, p, s)
+
   -- a reading behind the first j tokens
   pub behind_at : {A : Type 0} (j d : ℕ) (q : Tokens → Read A) (ts : Tokens) → LocalAt d q (drop j ts) → LocalAt (j + d) (λ us. plus j (q (drop j us))) ts
   unfolding LocalAt
@@ -185,9 +190,17 @@ module _ (end : ℕ) (bytes : List ℕ) where
 
       by : (r : Read A) → Gives d q (drop j ts) r → Gives (j + d) (λ us. plus j (q (drop j us))) ts (plus j r)
       by (Ok x) (l, s) = (omega (arith, l), λ us a. ap (plus j) (s (drop j us) (size x.1 us a)))
-      by (Err e) (k, p, inl (l, s)) =
-          (j + k, p ∙ ap (place end) (drop-drop k j ts), inl (omega (arith, l), λ us a. refuses_plus (too_deep e.0) j (q (drop j us)) (s (drop j us) (shown k (looked e.0) us a))))
-      by (Err e) (k, p, inr (w, r)) = (j + k, p ∙ ap (place end) (drop-drop k j ts), inr (w, no_tuple_left j k ts r))
+      by (Err e) (k, p, inl (l, s)) = moved_at (j + d) (λ us. plus j (q (drop j us))) ts e j k (
+        p,
+        inl (
+          omega (arith, l),
+          λ us a. refuses_plus (too_deep e.0) j (q (drop j us)) (s (drop j us) (shown k (looked e.0 (kind (drop k (drop j ts)))) us a)),
+        ),
+      )
+      by (Err e) (k, p, inr (w, r)) = moved_at (j + d) (λ us. plus j (q (drop j us))) ts e j k (p, inr (w, no_tuple_left j k ts (drop k (drop j ts)) r))
+
+  pub next_at : {A : Type 0} (q : Tokens → Read A) (ts : Tokens) → LocalAt 0 q (drop 1 ts) → LocalAt 0 (λ us. plus 1 (q (drop 1 us))) ts
+  next_at q ts local = less_at 0 1 (λ us. plus 1 (q (drop 1 us))) ts (omega arith) (behind_at 1 0 q ts local)
 
   -- a reading, and what follows it
   pub then_at : {A B : Type 0} (d : ℕ) (part : Tokens → Read A) (g : A → Tokens → Read B) (ts : Tokens) → LocalAt d part ts → ((x : A) (m : ℕ) → part ts ≡ Ok (x, m) → LocalAt 0 (g x) (drop m ts))
@@ -203,18 +216,19 @@ module _ (end : ℕ) (bytes : List ℕ) where
             ap (λ z. followed us z g) (s us (agree_less (suc x.1) (suc (x.1 + y.1)) us ts (omega arith) a))
             ∙ ap (plus x.1) (s' (drop x.1 us) (agree_behind x.1 (suc y.1) us ts (let e : suc (x.1 + y.1) ≡ x.1 + suc y.1 = omega arith in subst (λ k. Agree k us ts) e a))),
       )
-      more x l s (Err e) (k, p, inl (l', s')) = (
-        x.1 + k,
-        p ∙ ap (place end) (drop-drop k x.1 ts),
-        inl (
-          omega (arith, l, l'),
-          λ us a.
-              ap (λ z. refuses (too_deep e.0) (followed us z g)) (s us (agree_less (suc x.1) (x.1 + k + looked e.0) us ts (omega (arith, l')) a))
-              ∙ refuses_plus (too_deep e.0) x.1 (g x.0 (drop x.1 us)) (s' (drop x.1 us) (agree_behind x.1 (k + looked e.0) us ts
-              (let f : x.1 + k + looked e.0 ≡ x.1 + (k + looked e.0) = omega arith in subst (λ n. Agree n us ts) f a))),
-        ),
-      )
-      more x l s (Err e) (k, p, inr (w, r)) = (x.1 + k, p ∙ ap (place end) (drop-drop k x.1 ts), inr (w, no_tuple_left x.1 k ts r))
+      more x l s (Err e) (k, p, inl (l', s')) =
+          let n = looked e.0 (kind (drop k (drop x.1 ts))) in
+          let size : x.1 + k + n ≡ x.1 + (k + n) = omega arith in
+          moved_at d (λ us. followed us (part us) g) ts e x.1 k (
+            p,
+            inl (
+              omega (arith, l, l'),
+              λ us a.
+                  ap (λ z. refuses (too_deep e.0) (followed us z g)) (s us (agree_less (suc x.1) (x.1 + k + n) us ts (omega (arith, l')) a))
+                  ∙ refuses_plus (too_deep e.0) x.1 (g x.0 (drop x.1 us)) (s' (drop x.1 us) (agree_behind x.1 (k + n) us ts (subst (λ n. Agree n us ts) size a))),
+            ),
+          )
+      more x l s (Err e) (k, p, inr (w, r)) = moved_at d (λ us. followed us (part us) g) ts e x.1 k (p, inr (w, no_tuple_left x.1 k ts (drop k (drop x.1 ts)) r))
 
       by : (r : Read A) → Gives d part ts r → ((x : A) (m : ℕ) → r ≡ Ok (x, m) → LocalAt 0 (g x) (drop m ts)) → Gives d (λ us. followed us (part us) g) ts (followed ts r g)
       by (Ok x) (l, s) next = more x l s (g x.0 (drop x.1 ts)) (next x.0 x.1 refl)

@@ -182,7 +182,7 @@ module _ (end : ℕ) (bytes : List ℕ) (ns : Nest) (below : LocalBelow end byte
         inl (
           omega (arith, l),
           λ us a.
-              opened_refused (too_deep e.0) us (λ h. same us a) (λ h. ap (refuses (too_deep e.0)) (column_refused room us (column_same us ts (k + looked e.0) p (omega (arith, l)) a)) ∙ refuses_any (too_deep e.0) (refused fault.Syntax) refl),
+              opened_refused (too_deep e.0) us (λ h. same us a) (λ h. ap (refuses (too_deep e.0)) (column_refused room us (column_same us ts (k + looked e.0 (kind (drop k ts))) p (omega (arith, l)) a)) ∙ refuses_any (too_deep e.0) (refused fault.Syntax) refl),
         ),
       )
       by p (Err e) (k, at, inr r) = (k, at, inr r)
@@ -257,7 +257,7 @@ module _ (end : ℕ) (bytes : List ℕ) (ns : Nest) (below : LocalBelow end byte
         inl (
           omega (arith, l),
           λ us a.
-              opened_refused (too_deep e.0) us (λ h. absurd (clash (too_deep e.0) (k + looked e.0) us l a fails (tuple_column end bytes (drop 1 us) h))) (λ h. fails us a),
+              opened_refused (too_deep e.0) us (λ h. absurd (clash (too_deep e.0) (k + looked e.0 (kind (drop k ts))) us l a fails (tuple_column end bytes (drop 1 us) h))) (λ h. fails us a),
         ),
       )
       by (Err e) (k, at, inr r) = (k, at, inr r)

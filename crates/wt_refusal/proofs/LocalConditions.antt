@@ -14,7 +14,7 @@ use Rattle.wt_grammar.specs.Reading as read
 use Rattle.wt_grammar.specs.Reading.{Read, Refusal, Nest, refused, plus, followed, list, within, expect, cmp_of, between_of, of_column, opens_tuple}
 use Rattle.wt_sentence.specs.Grammar.{Column}
 use Rattle.wt_sentence.proofs.Follows.{in_is}
-use Rattle.wt_refusal.proofs.Local.{Agree, agree_front, kind_front, LocalAt, Local, refusal_at, barred_at, less_at, as_at, seen_at, test_at, behind_at, then_at, last_at, refuses}
+use Rattle.wt_refusal.proofs.Local.{Agree, agree_front, kind_front, LocalAt, Local, refusal_at, barred_at, less_at, as_at, seen_at, test_at, behind_at, next_at, then_at, last_at, refuses}
 use Rattle.wt_refusal.proofs.LocalParts.{list_at, by_kind, expect_local, closed_at, by_place, operand_local, literal_local}
 use Rattle.wt_refusal.proofs.LocalTuples.{Closes}
 
@@ -54,8 +54,8 @@ module _ (end : ℕ) (bytes : List ℕ) where
   compared_local None at a ts = refusal_at end bytes CondTree 0 0 (refused fault.Syntax) ts (omega arith)
   compared_local (Some w) at a ts =
       by_place end bytes 0 (λ p us. plus 1 (followed (drop 1 us) (read.operand end bytes (drop 1 us)) (λ b rest. Ok (compare at w a b p, 0)))) ts
-      (less_at end bytes 0 1 _ ts (omega arith) (behind_at end bytes 1 0 (λ l. followed l (read.operand end bytes l) (λ b rest. Ok (compare at w a b (place end ts), 0))) ts
-      (last_at end bytes 0 (read.operand end bytes) (λ b. compare at w a b (place end ts)) (drop 1 ts) (operand_local end bytes (drop 1 ts)))))
+      (next_at end bytes (λ l. followed l (read.operand end bytes l) (λ b rest. Ok (compare at w a b (place end ts), 0))) ts
+      (last_at end bytes 0 (read.operand end bytes) (λ b. compare at w a b (place end ts)) (drop 1 ts) (operand_local end bytes (drop 1 ts))))
 
   null_word : CondTree → Tokens → Read CondTree
   null_word x us = followed us (expect end is_null_word syntax us) (λ _ rest. Ok (x, 0))
@@ -68,7 +68,7 @@ module _ (end : ℕ) (bytes : List ℕ) where
   unfolding read.is_part null_word
   is_part_local at c ts =
       test_at end bytes is_not 0 0 (λ us. plus 1 (null_word (is_not_null at c) (drop 1 us))) (null_word (is_null at c)) ts (omega arith)
-      (λ s. less_at end bytes 0 1 _ ts (omega arith) (behind_at end bytes 1 0 (null_word (is_not_null at c)) ts (null_word_local (is_not_null at c) (drop 1 ts))))
+      (λ s. next_at end bytes (null_word (is_not_null at c)) ts (null_word_local (is_not_null at c) (drop 1 ts)))
       (λ s. null_word_local (is_null at c) ts)
 
   of_column_at : {A : Type 0} (d : ℕ) (a : Scalar) (f : ColumnName → Tokens → Read A) (ts : Tokens) → d ≤ 0 → ((c : ColumnName) → a ≡ scalar.Column c → LocalAt end bytes d (f c) ts)
@@ -168,13 +168,13 @@ module _ (end : ℕ) (bytes : List ℕ) where
         test_at end bytes is_between 0 0 (λ us. plus 1 (followed (drop 1 us) (read.between end bytes at a (place end us) (drop 1 us)) (λ x rest. Ok (negated at x, 0))))
         (λ us. if is_in (kind us) then of_column end a (λ c. plus 1 (read.not_in_part end bytes ns at c not_at (place end us) (drop 1 us))) us else read.no end (no_negated (kind us)) us) ts (omega arith)
         (λ s. by_place end bytes 0 (λ p us. plus 1 (followed (drop 1 us) (read.between end bytes at a p (drop 1 us)) (λ x rest. Ok (negated at x, 0)))) ts
-        (less_at end bytes 0 1 _ ts (omega arith) (behind_at end bytes 1 0 (λ l. followed l (read.between end bytes at a (place end ts) l) (λ x rest. Ok (negated at x, 0))) ts
-        (last_at end bytes 0 (read.between end bytes at a (place end ts)) (λ x. negated at x) (drop 1 ts) (between_local at a (place end ts) (drop 1 ts))))))
+        (next_at end bytes (λ l. followed l (read.between end bytes at a (place end ts) l) (λ x rest. Ok (negated at x, 0))) ts
+        (last_at end bytes 0 (read.between end bytes at a (place end ts)) (λ x. negated at x) (drop 1 ts) (between_local at a (place end ts) (drop 1 ts)))))
         (λ s. test_at end bytes is_in 0 0 (λ us. of_column end a (λ c. plus 1 (read.not_in_part end bytes ns at c not_at (place end us) (drop 1 us))) us) (λ us. read.no end (no_negated (kind us)) us) ts (omega arith)
         (λ s. of_column_at 0 a (λ c us. plus 1 (read.not_in_part end bytes ns at c not_at (place end us) (drop 1 us))) ts (omega arith) (λ c e.
         by_place end bytes 0 (λ p us. plus 1 (read.not_in_part end bytes ns at c not_at p (drop 1 us))) ts
-        (less_at end bytes 0 1 _ ts (omega arith) (behind_at end bytes 1 0 (read.not_in_part end bytes ns at c not_at (place end ts)) ts
-        (not_in_local at c not_at (place end ts) (drop 1 ts) (values_follow c e s))))))
+        (next_at end bytes (read.not_in_part end bytes ns at c not_at (place end ts)) ts
+        (not_in_local at c not_at (place end ts) (drop 1 ts) (values_follow c e s)))))
         (λ s. by_kind end bytes CondTree no_negated ts))
       where
         values_follow : (c : ColumnName) → a ≡ scalar.Column c → is_in (kind ts) ≡ true → (is_open (kind (drop 1 ts)) && is_select (kind (drop 1 (drop 1 ts)))) ≡ false
@@ -203,8 +203,8 @@ module _ (end : ℕ) (bytes : List ℕ) where
         plain : (a : Scalar) → ((c : ColumnName) → a ≡ scalar.Column c → not_query ts ≡ false) → LocalAt end bytes 0 (λ us. plus 1 (read.after_not end bytes ns at a (place end us) (drop 1 us))) ts
         plain a none =
             by_place end bytes 0 (λ p us. plus 1 (read.after_not end bytes ns at a p (drop 1 us))) ts
-            (less_at end bytes 0 1 _ ts (omega arith) (behind_at end bytes 1 0 (read.after_not end bytes ns at a (place end ts)) ts
-            (after_not_local at a (place end ts) (drop 1 ts) (λ c e. (λ i. is_in (kind (drop 1 ts)) && (is_open (kind (drop-drop 1 1 ts i)) && is_select (kind (drop-drop 2 1 ts i)))) ∙ none c e))))
+            (next_at end bytes (read.after_not end bytes ns at a (place end ts)) ts
+            (after_not_local at a (place end ts) (drop 1 ts) (λ c e. (λ i. is_in (kind (drop 1 ts)) && (is_open (kind (drop-drop 1 1 ts i)) && is_select (kind (drop-drop 2 1 ts i)))) ∙ none c e)))
 
         same : (us : Tokens) → Agree 4 us ts → not_query us ≡ not_query ts
         same us h = λ i. is_in (agree_front kind kind_front 1 3 us ts (omega arith) h i) && (is_open (agree_front kind kind_front 2 3 us ts (omega arith) h i) && is_select (agree_front kind kind_front 3 3 us ts (omega arith) h i))
@@ -223,9 +223,9 @@ module _ (end : ℕ) (bytes : List ℕ) where
         (λ s. test_at end bytes is_not 0 0 (λ us. plus 1 (read.after_not end bytes ns at a (place end us) (drop 1 us))) _ ts (omega arith) (λ s. not_local at a ts)
         (λ s. test_at end bytes is_is 0 0 (λ us. of_column end a (λ c. plus 1 (read.is_part end at c (drop 1 us))) us) _ ts (omega arith)
         (λ s. of_column_at 0 a (λ c us. plus 1 (read.is_part end at c (drop 1 us))) ts (omega arith)
-        (λ c e. less_at end bytes 0 1 _ ts (omega arith) (behind_at end bytes 1 0 (read.is_part end at c) ts (is_part_local at c (drop 1 ts)))))
+        (λ c e. next_at end bytes (read.is_part end at c) ts (is_part_local at c (drop 1 ts))))
         (λ s. test_at end bytes is_in 0 0 (λ us. of_column end a (λ c. plus 1 (read.in_part end bytes ns at c (place end us) (drop 1 us))) us) _ ts (omega arith)
         (λ s. of_column_at 0 a (λ c us. plus 1 (read.in_part end bytes ns at c (place end us) (drop 1 us))) ts (omega arith)
         (λ c e. by_place end bytes 0 (λ p us. plus 1 (read.in_part end bytes ns at c p (drop 1 us))) ts
-        (less_at end bytes 0 1 _ ts (omega arith) (behind_at end bytes 1 0 (read.in_part end bytes ns at c (place end ts)) ts (in_part_local at c (place end ts) (drop 1 ts))))))
+        (next_at end bytes (read.in_part end bytes ns at c (place end ts)) ts (in_part_local at c (place end ts) (drop 1 ts)))))
         (λ s. seen_at end bytes kind kind_front 0 0 (λ k us. read.compared_by end bytes (cmp_of k) at a us) ts (omega arith) (compared_local (cmp_of (kind ts)) at a ts)))))

@@ -20,7 +20,8 @@ use Rattle.wt_grammar.specs.Refusals.{beyond, no_operand, no_literal, no_item}
 use Rattle.wt_grammar.specs.Reading as read
 use Rattle.wt_grammar.specs.Reading.{Read, Refusal, refused, odd, plus, followed, taken, joined_to, more, list, run, one_or, expect, ended, ended_by, within, name_at, text_at, name_only}
 use Rattle.wt_sentence.proofs.Inversions.{skip}
-use Rattle.wt_refusal.proofs.Local.{AtFront, kind_front, place_front, some_looked, agree_front, LocalAt, Local, too_deep, value_at, refusal_at, table_at, less_at, as_at, seen_at, test_at, behind_at, then_at, last_at}
+use Rattle.wt_refusal.specs.Refused.{looked}
+use Rattle.wt_refusal.proofs.Local.{AtFront, kind_front, place_front, some_looked, agree_front, LocalAt, Local, too_deep, value_at, refusal_at, table_at, less_at, as_at, seen_at, test_at, behind_at, next_at, then_at, last_at}
 
 -- a separator, the part behind it, and more
 abbrev turn : {A : Type 0} → (Kind → Bool) → (Tokens → Read A) → Tokens → Read (List A)
@@ -72,9 +73,9 @@ module _ (end : ℕ) (bytes : List ℕ) where
     one_more ts ih =
         as_at end bytes 0 (more sep part 0) (λ us. if sep (kind us) then plus 1 (turn sep part (drop 1 us)) else Ok ([], 0)) ts (λ us a. more_as sep part sep_end us)
         (test_at end bytes sep 0 0 (λ us. plus 1 (turn sep part (drop 1 us))) (λ us. Ok ([], 0)) ts (omega arith) (λ s.
-        less_at end bytes 0 1 (λ us. plus 1 (turn sep part (drop 1 us))) ts (omega arith) (behind_at end bytes 1 0 (turn sep part) ts
+        next_at end bytes (turn sep part) ts
         (then_at end bytes 0 part _ (drop 1 ts) (local (drop 1 ts)) (λ x m e. last_at end bytes 0 (more sep part 0) (λ xs. x ∷ xs) (drop m (drop 1 ts)) (ih (drop m (drop 1 ts))
-        (omega (arith, some_there sep sep_end ts s, length-drop m (drop 1 ts), length-drop 1 ts)))))))
+        (omega (arith, some_there sep sep_end ts s, length-drop m (drop 1 ts), length-drop 1 ts))))))
         (λ s. value_at end bytes 0 0 [] ts (omega arith)))
 
     more_to : (bound : ℕ) (ts : Tokens) → length ts ≤ bound → LocalAt end bytes 0 (more sep part 0) ts
@@ -96,7 +97,7 @@ module _ (end : ℕ) (bytes : List ℕ) where
 
   -- refused as the kind of the token at the front
   pub by_kind : (A : Type 0) (other : Kind → QueryFault) (ts : Tokens) → LocalAt end bytes {A = A} 0 (λ us. Err (refused (other (kind us)), place end us)) ts
-  by_kind A other ts = seen_at end bytes kind kind_front 0 0 (λ k us. Err (refused (other k), place end us)) ts (omega arith) (refusal_at end bytes A 0 0 (refused (other (kind ts))) ts (omega (arith, some_looked (refused (other (kind ts))))))
+  by_kind A other ts = seen_at end bytes kind kind_front 0 0 (λ k us. Err (refused (other k), place end us)) ts (omega arith) (refusal_at end bytes A 0 0 (refused (other (kind ts))) ts (omega (arith, some_looked (refused (other (kind ts))) (kind ts))))
 
   pub expect_local : (wanted : Kind → Bool) (other : Kind → QueryFault) → Local end bytes 0 (expect end wanted other)
   unfolding expect
@@ -118,7 +119,7 @@ module _ (end : ℕ) (bytes : List ℕ) where
     where
       by : (x : A) (l : Tokens) (o : Option QueryFault) → LocalAt end bytes 0 (ended_by end o x) l
       by x l None = value_at end bytes 0 0 x l (omega arith)
-      by x l (Some f) = refusal_at end bytes A 0 0 (refused f) l (omega (arith, some_looked (refused f)))
+      by x l (Some f) = refusal_at end bytes A 0 0 (refused f) l (omega (arith, some_looked (refused f) (kind l)))
 
   -- ---- names and columns
 
@@ -184,7 +185,7 @@ module _ (end : ℕ) (bytes : List ℕ) where
       test_at end bytes is_name 0 d (λ us. if is_dot (kind (drop 1 us)) then dotted_by (name_at bytes us) (place end us) us else bare_by (name_at bytes us) (place end us) us)
       (λ us. read.no end (no_operand (kind us) (kind (drop 1 us))) us) ts (omega arith)
       (λ s. if_dotted s (is_dot (kind (drop 1 ts))) refl)
-      (λ s. table_at end bytes ColumnName d 0 (λ us. refused (no_operand (kind us) (kind (drop 1 us)))) ts (omega (arith, none s, some_looked (refused (no_operand (kind ts) (kind (drop 1 ts))))))
+      (λ s. table_at end bytes ColumnName d 0 (λ us. refused (no_operand (kind us) (kind (drop 1 us)))) ts (omega (arith, none s, some_looked (refused (no_operand (kind ts) (kind (drop 1 ts)))) (kind ts)))
       (λ us. operand_table (kind us) (kind (drop 1 us))))
     where
       if_dotted : is_name (kind ts) ≡ true → (b : Bool) → is_dot (kind (drop 1 ts)) ≡ b
@@ -218,12 +219,15 @@ module _ (end : ℕ) (bytes : List ℕ) where
       by true = refusal_at end bytes Value 1 1 (odd NumberRange) ts (omega arith)
       by false = value_at end bytes 1 2 (value.Int (neg_ℤ (pos n))) ts (omega arith)
 
-  minus_local : Local end bytes 0 (λ us. read.negative_by end (kind (drop 1 us)) us)
-  minus_local ts = less_at end bytes 0 1 _ ts (omega arith) (seen_at end bytes kind kind_front 1 1 (read.negative_by end) ts (omega arith) (by (kind (drop 1 ts))))
+  minus_at : (ts : Tokens) → kind ts ≡ Mark sym.Minus → LocalAt end bytes 0 (λ us. read.negative_by end (kind (drop 1 us)) us) ts
+  minus_at ts is = less_at end bytes 0 1 _ ts (omega arith) (seen_at end bytes kind kind_front 1 1 (read.negative_by end) ts (omega arith) (by (kind (drop 1 ts))))
     where
+      two : looked (refused fault.Arithmetic) (kind ts) ≡ 2
+      two = ap (looked (refused fault.Arithmetic)) is
+
       by : (k : Kind) → LocalAt end bytes 1 (read.negative_by end k) ts
       by (Number n) = negative_at n ts
-      by _ = refusal_at end bytes Value 1 0 (refused fault.Arithmetic) ts (omega arith)
+      by _ = refusal_at end bytes Value 1 0 (refused fault.Arithmetic) ts (omega (arith, two))
 
   listed_minus_local : Local end bytes 0 (λ us. read.listed_negative end (kind (drop 1 us)) us)
   listed_minus_local ts = less_at end bytes 0 1 _ ts (omega arith) (seen_at end bytes kind kind_front 1 1 (read.listed_negative end) ts (omega arith) (by (kind (drop 1 ts))))
@@ -234,15 +238,15 @@ module _ (end : ℕ) (bytes : List ℕ) where
 
   pub operand_local : Local end bytes 0 (read.operand end bytes)
   unfolding read.operand
-  operand_local ts = ended_at (λ us. read.operand_by end bytes (kind us) us) ts (seen_at end bytes kind kind_front 0 0 (read.operand_by end bytes) ts (omega arith) (by (kind ts)))
+  operand_local ts = ended_at (λ us. read.operand_by end bytes (kind us) us) ts (seen_at end bytes kind kind_front 0 0 (read.operand_by end bytes) ts (omega arith) (by (kind ts) refl))
     where
-      by : (k : Kind) → LocalAt end bytes 0 (read.operand_by end bytes k) ts
-      by (Number n) = by_place 0 (λ p us. followed us (read.unsigned end n us) (λ v rest. Ok (scalar.Literal v p, 0))) ts (last_at end bytes 0 (read.unsigned end n) (λ v. scalar.Literal v (place end ts)) ts (unsigned_local n ts))
-      by Text = by_text 0 (λ s p us. Ok (scalar.Literal (value.Text s) p, 1)) ts (value_at end bytes 0 1 (scalar.Literal (value.Text (text_at bytes ts)) (place end ts)) ts (omega arith))
-      by (Mark sym.Minus) =
+      by : (k : Kind) → kind ts ≡ k → LocalAt end bytes 0 (read.operand_by end bytes k) ts
+      by (Number n) e = by_place 0 (λ p us. followed us (read.unsigned end n us) (λ v rest. Ok (scalar.Literal v p, 0))) ts (last_at end bytes 0 (read.unsigned end n) (λ v. scalar.Literal v (place end ts)) ts (unsigned_local n ts))
+      by Text e = by_text 0 (λ s p us. Ok (scalar.Literal (value.Text s) p, 1)) ts (value_at end bytes 0 1 (scalar.Literal (value.Text (text_at bytes ts)) (place end ts)) ts (omega arith))
+      by (Mark sym.Minus) e =
           by_place 0 (λ p us. followed us (read.negative_by end (kind (drop 1 us)) us) (λ v rest. Ok (scalar.Literal v p, 0))) ts
-          (last_at end bytes 0 (λ us. read.negative_by end (kind (drop 1 us)) us) (λ v. scalar.Literal v (place end ts)) ts (minus_local ts))
-      by _ = last_at end bytes 0 (read.column end bytes) (λ c. scalar.Column c) ts (column_local ts)
+          (last_at end bytes 0 (λ us. read.negative_by end (kind (drop 1 us)) us) (λ v. scalar.Literal v (place end ts)) ts (minus_at ts e))
+      by _ e = last_at end bytes 0 (read.column end bytes) (λ c. scalar.Column c) ts (column_local ts)
 
   pub literal_local : Local end bytes 0 (read.literal end bytes)
   unfolding read.literal
@@ -252,7 +256,7 @@ module _ (end : ℕ) (bytes : List ℕ) where
       by (Number n) = unsigned_local n ts
       by Text = by_text 0 (λ s p us. Ok (value.Text s, 1)) ts (value_at end bytes 0 1 (value.Text (text_at bytes ts)) ts (omega arith))
       by (Mark sym.Minus) = listed_minus_local ts
-      by k = refusal_at end bytes Value 0 0 (refused (no_literal k)) ts (omega (arith, some_looked (refused (no_literal k))))
+      by k = refusal_at end bytes Value 0 0 (refused (no_literal k)) ts (omega (arith, some_looked (refused (no_literal k)) (kind ts)))
 
   -- ---- aliases and items
 
@@ -268,7 +272,7 @@ module _ (end : ℕ) (bytes : List ℕ) where
   unfolding read.alias placed_name
   alias_local ts =
       test_at end bytes is_as 0 0 (λ us. plus 1 (placed_name (drop 1 us))) (λ us. if is_name (kind us) then placed_name us else Ok (None, 0)) ts (omega arith)
-      (λ s. less_at end bytes 0 1 _ ts (omega arith) (behind_at end bytes 1 0 placed_name ts (placed_name_local (drop 1 ts))))
+      (λ s. next_at end bytes placed_name ts (placed_name_local (drop 1 ts)))
       (λ s. test_at end bytes is_name 0 0 placed_name (λ us. Ok (None, 0)) ts (omega arith) (λ s. placed_name_local ts) (λ s. value_at end bytes 0 0 None ts (omega arith)))
 
   -- a column and its alias, or no item
@@ -283,7 +287,7 @@ module _ (end : ℕ) (bytes : List ℕ) where
       test_at end bytes is_name 0 d (λ us. followed us (read.column end bytes us) (λ c rest. followed rest (read.alias end bytes rest) (λ a r. Ok (items.Column c (name_only a), 0))))
       (λ us. read.no end (no_item (kind us) (kind (drop 1 us))) us) ts (omega arith)
       (λ s. then_at end bytes d (read.column end bytes) _ ts (column_by d ts h none bare) (λ c m e. last_at end bytes 0 (read.alias end bytes) (λ a. items.Column c (name_only a)) (drop m ts) (alias_local (drop m ts))))
-      (λ s. table_at end bytes Item d 0 (λ us. refused (no_item (kind us) (kind (drop 1 us)))) ts (omega (arith, none s, some_looked (refused (no_item (kind ts) (kind (drop 1 ts))))))
+      (λ s. table_at end bytes Item d 0 (λ us. refused (no_item (kind us) (kind (drop 1 us)))) ts (omega (arith, none s, some_looked (refused (no_item (kind ts) (kind (drop 1 ts)))) (kind ts)))
       (λ us. item_table (kind us) (kind (drop 1 us))))
 
   -- what begins as `name . *`

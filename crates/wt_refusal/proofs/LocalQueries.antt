@@ -16,7 +16,7 @@ use Rattle.wt_grammar.specs.Reading as read
 use Rattle.wt_grammar.specs.Reading.{Read, Nest, refused, plus, followed, list, taken, made, chain, expect, within, join_of, name_at, name_only, place_or, no_query_end}
 use Rattle.wt_sentence.specs.Grammar.{Column, deeper}
 use Rattle.wt_sentence.proofs.Complete.{complete_below}
-use Rattle.wt_refusal.proofs.Local.{LocalAt, Local, Gives, value_at, refusal_at, less_at, takes_at, as_at, test_at, behind_at, then_at, last_at}
+use Rattle.wt_refusal.proofs.Local.{LocalAt, Local, Gives, value_at, refusal_at, less_at, takes_at, as_at, test_at, behind_at, next_at, then_at, last_at}
 use Rattle.wt_refusal.proofs.LocalParts.{some_there, list_at, expect_local, closed_at, by_place, by_name, name_local, alias_local, item_local}
 use Rattle.wt_refusal.proofs.LocalTuples.{column_first, no_condition, null_condition}
 use Rattle.wt_refusal.proofs.LocalConditions.{LocalBelow, listed_at, none_listed}
@@ -43,7 +43,7 @@ module _ (end : ℕ) (bytes : List ℕ) where
   unfolding read.derived_name
   derived_name_local ts =
       test_at end bytes is_as 0 0 (λ us. plus 1 (read.bare_name end bytes (drop 1 us))) (read.bare_name end bytes) ts (omega arith)
-      (λ s. less_at end bytes 0 1 _ ts (omega arith) (behind_at end bytes 1 0 (read.bare_name end bytes) ts (bare_name_local (drop 1 ts)))) (λ s. bare_name_local ts)
+      (λ s. next_at end bytes (read.bare_name end bytes) ts (bare_name_local (drop 1 ts))) (λ s. bare_name_local ts)
 
   join_word : JoinKind → Tokens → Read JoinKind
   join_word k us = followed us (expect end is_join syntax us) (λ _ rest. Ok (k, 0))
@@ -56,7 +56,7 @@ module _ (end : ℕ) (bytes : List ℕ) where
   unfolding read.outer_join join_word
   outer_join_local k ts =
       test_at end bytes is_outer 0 0 (λ us. plus 1 (join_word k (drop 1 us))) (join_word k) ts (omega arith)
-      (λ s. less_at end bytes 0 1 _ ts (omega arith) (behind_at end bytes 1 0 (join_word k) ts (join_word_local k (drop 1 ts)))) (λ s. join_word_local k ts)
+      (λ s. next_at end bytes (join_word k) ts (join_word_local k (drop 1 ts))) (λ s. join_word_local k ts)
 
   join_words_local : Local end bytes 1 (read.join_words end)
   unfolding read.join_words join_word
@@ -173,8 +173,8 @@ module _ (end : ℕ) (bytes : List ℕ) where
     unfolding read.filter
     filter_local ts =
         test_at end bytes is_where 0 0 (λ us. plus 1 (followed (drop 1 us) (read.cond end bytes ns (drop 1 us)) (λ c rest. Ok (filter_by c, 0)))) (λ us. Ok (no_filter, 0)) ts (omega arith)
-        (λ s. less_at end bytes 0 1 _ ts (omega arith) (behind_at end bytes 1 0 (λ l. followed l (read.cond end bytes ns l) (λ c rest. Ok (filter_by c, 0))) ts
-        (last_at end bytes 0 (read.cond end bytes ns) (λ c. filter_by c) (drop 1 ts) (cond_local end bytes ns below (drop 1 ts)))))
+        (λ s. next_at end bytes (λ l. followed l (read.cond end bytes ns l) (λ c rest. Ok (filter_by c, 0))) ts
+        (last_at end bytes 0 (read.cond end bytes ns) (λ c. filter_by c) (drop 1 ts) (cond_local end bytes ns below (drop 1 ts))))
         (λ s. value_at end bytes 0 0 no_filter ts (omega arith))
 
     pub body_local : Local end bytes 0 (read.body end bytes ns)
@@ -224,11 +224,11 @@ module _ (end : ℕ) (bytes : List ℕ) where
       by : LocalBelow end bytes (read.nest end bytes l) → LocalBelow end bytes (read.nest end bytes (suc l))
       by below = record {
         negs = λ ts. by_place end bytes 0 (λ p us. plus 1 (followed (drop 1 us) (read.neg end bytes (read.nest end bytes l) (drop 1 us)) (λ c rest. Ok (negated p c, 0)))) ts
-            (less_at end bytes 0 1 _ ts (omega arith) (behind_at end bytes 1 0 (λ us. followed us (read.neg end bytes (read.nest end bytes l) us) (λ c rest. Ok (negated (place end ts) c, 0))) ts
-            (last_at end bytes 0 (read.neg end bytes (read.nest end bytes l)) (λ c. negated (place end ts) c) (drop 1 ts) (neg_local end bytes (read.nest end bytes l) below (drop 1 ts)))));
+            (next_at end bytes (λ us. followed us (read.neg end bytes (read.nest end bytes l) us) (λ c rest. Ok (negated (place end ts) c, 0))) ts
+            (last_at end bytes 0 (read.neg end bytes (read.nest end bytes l)) (λ c. negated (place end ts) c) (drop 1 ts) (neg_local end bytes (read.nest end bytes l) below (drop 1 ts))));
         conds = λ room ts. closed_at end bytes 0 (read.cond end bytes (read.nest end bytes l)) (λ _. syntax) ts (cond_local end bytes (read.nest end bytes l) below (drop 1 ts));
         queries = λ room ts. closed_at end bytes 0 (λ us. plus 1 (read.body end bytes (read.nest end bytes l) (drop 1 us))) no_query_end ts
-            (less_at end bytes 0 1 _ (drop 1 ts) (omega arith) (behind_at end bytes 1 0 (read.body end bytes (read.nest end bytes l)) (drop 1 ts) (body_local (read.nest end bytes l) below (drop 1 (drop 1 ts)))));
+            (next_at end bytes (read.body end bytes (read.nest end bytes l)) (drop 1 ts) (body_local (read.nest end bytes l) below (drop 1 (drop 1 ts))));
         froms = λ room ts. closed_at end bytes 0 (read.joined end bytes (read.nest end bytes l)) (λ _. no_join) ts (joined_local (read.nest end bytes l) below (drop 1 ts));
         no_conds = λ room ts. absurd cc;
         no_queries = λ room ts. absurd cc;

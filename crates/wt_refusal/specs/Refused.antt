@@ -2,19 +2,23 @@
 use Rattle.std.specs.Prelude.{◌≡◌, ℕ, ◌≤◌, Bool, true, false, ◌⊎◌, List, ◌∷◌, ◌++◌, take}
 use Rattle.wt_ast.specs.declared.tree.ColumnName.{ColumnName}
 use Rattle.wt_ast.specs.Tree.{QueryTree}
+use Rattle.wt_lex.specs.declared.token.Sym.TheVariants as sym
 use Rattle.wt_grammar.specs.declared.fault.QueryFault.{QueryFault}
 use Rattle.wt_grammar.specs.declared.fault.QueryFault.TheVariants as fault
+use Rattle.wt_grammar.specs.declared.lexeme.Kind.{Kind}
+use Rattle.wt_grammar.specs.declared.lexeme.Kind.TheVariants.{Mark}
 use Rattle.wt_grammar.specs.declared.lexeme.Lexeme.{Lexeme}
 use Rattle.wt_grammar.specs.Lexemes.{Tokens, kind, place, is_select, is_open, is_close, is_comma}
 use Rattle.wt_grammar.specs.Reading.{Refusal, refused}
 use Rattle.wt_sentence.specs.Grammar.{Seq, Is, Column, Body, deeper}
 
--- How many tokens show a refusal: one, but `-` and what is no number, `(` and SELECT, and NOT IN `(` SELECT.
-abbrev pub looked : Refusal → ℕ
-looked (refused fault.Arithmetic) = 2
-looked (refused fault.Subquery) = 2
-looked (refused fault.NotInSubquery) = 4
-looked _ = 1
+-- How many tokens show a refusal at a token of this kind: one, but `-` and what is no number, `(` and SELECT, and NOT IN
+-- `(` SELECT.
+abbrev pub looked : Refusal → Kind → ℕ
+looked (refused fault.Arithmetic) (Mark sym.Minus) = 2
+looked (refused fault.Subquery) _ = 2
+looked (refused fault.NotInSubquery) _ = 4
+looked _ _ = 1
 
 -- the kinds of refusals that come from the grammar, not from the length of a statement or from what its tree has
 abbrev pub is_of_grammar : QueryFault → Bool
@@ -50,7 +54,7 @@ module _ (end : ℕ) (bytes : List ℕ) where
       × ((is_comma (kind behind) ≡ true) ⊎ (is_close (kind behind) ≡ true))
 
   abbrev pub Ends : Refusal → Tokens → Tokens → Type 0
-  Ends why before behind = NoneGoesOn (Speaks why) (looked why) before behind ⊎ ((why ≡ refused fault.Syntax) × IsNoTuple before behind)
+  Ends why before behind = NoneGoesOn (Speaks why) (looked why (kind behind)) before behind ⊎ ((why ≡ refused fault.Syntax) × IsNoTuple before behind)
 
   -- the tokens up to a place, and those behind it
   abbrev pub Parts : (Tokens → Tokens → Type 0) → Tokens → ℕ → Type 0

@@ -8,8 +8,9 @@ use Rattle.wt_grammar.specs.Refusals.{no_statement}
 use Rattle.wt_grammar.specs.Reading as read
 use Rattle.wt_grammar.specs.Reading.{Read, Refusal, refused, odd, plus, followed, no_query_end}
 use Rattle.wt_sentence.proofs.Complete.{statement_with, complete_with}
-use Rattle.wt_refusal.specs.Refused.{looked, Speaks, IsSentence, Ends, Parts}
-use Rattle.wt_refusal.proofs.Levels.{IsTooDeep, more_levels}
+use Rattle.wt_viable.specs.Sentences.{IsSentence, Parts}
+use Rattle.wt_refusal.specs.Refused.{looked, Speaks, Ends}
+use Rattle.wt_viable.proofs.Levels.{IsTooDeep, more_levels}
 use Rattle.wt_refusal.proofs.Local.{Agree, too_deep, refuses, some_looked, LocalAt, Local, Gives, Refuses, value_at, test_at, next_at, then_at}
 use Rattle.wt_refusal.proofs.LocalParts.{by_kind}
 use Rattle.wt_refusal.proofs.LocalQueries.{local_below, body_local}

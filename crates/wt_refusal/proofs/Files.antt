@@ -1,5 +1,5 @@
 -- The statement of a file that is refused by its grammar.
-use Rattle.std.proofs.Common.{◌≡◌, ℕ, zero, suc, Bool, true, false, List, [], ◌∷◌, map, refl, ap, sym, ◌∙◌, arith, subst, Ok, Err, Option, Some, None}
+use Rattle.std.proofs.Common.{◌≡◌, ℕ, zero, suc, Bool, true, false, List, [], ◌∷◌, map, refl, ap, sym, subst, Ok, Err, Option, Some, None}
 use Rattle.std.specs.Prelude.{if◌then◌else◌, length, slice_get, Result}
 use Rattle.wt_bag.specs.Bags.{Each}
 use Rattle.wt_lex.specs.declared.token.Token.{Token}
@@ -14,7 +14,6 @@ use Rattle.wt_grammar.specs.declared.fault.QueryFault.TheVariants as fault
 use Rattle.wt_grammar.specs.Words.{lexeme}
 use Rattle.wt_grammar.specs.Reading.{Read, Refusal, refused, odd, statement}
 use Rattle.wt_grammar.specs.Statements.{Statement, File, Answer, file_by, file_of, statements, is_too_long, lexical_or, first_odd, limited, placed, counted, crowded, answer, begin}
-use Rattle.wt_sentence.proofs.Inversions.{chosen}
 use Rattle.wt_refusal.specs.Refused.{StandsAt, is_of_grammar}
 use Rattle.wt_refusal.proofs.Order.{IsOrdered, statements_in_order}
 use Rattle.wt_refusal.proofs.Stands.{refusal_stands}

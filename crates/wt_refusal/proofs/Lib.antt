@@ -4,12 +4,6 @@ pub mod LocalTuples
 pub mod LocalConditions
 pub mod LocalBasic
 pub mod LocalQueries
-pub mod Levels
-pub mod Begins
-pub mod BeginsParts
-pub mod BeginsConditions
-pub mod BeginsQueries
-pub mod BeginsStatements
 pub mod Ends
 pub mod Stands
 pub mod Order

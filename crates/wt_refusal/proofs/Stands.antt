@@ -4,8 +4,9 @@ use Rattle.std.specs.Prelude.{map}
 use Rattle.wt_lex.specs.Sound.{InOrder}
 use Rattle.wt_grammar.specs.Lexemes.{Tokens, place}
 use Rattle.wt_grammar.specs.Reading.{Refusal, statement}
-use Rattle.wt_refusal.specs.Refused.{BeginsSome, StandsAt}
-use Rattle.wt_refusal.proofs.BeginsStatements.{refusal_begins}
+use Rattle.wt_viable.specs.Sentences.{BeginsSome}
+use Rattle.wt_refusal.specs.Refused.{StandsAt}
+use Rattle.wt_viable.proofs.BeginsStatements.{refusal_begins}
 use Rattle.wt_refusal.proofs.Ends.{refusal_ends}
 
 abbrev Ordered : ℕ → ℕ → Tokens → Type 0

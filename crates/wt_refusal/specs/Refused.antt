@@ -8,9 +8,10 @@ use Rattle.wt_grammar.specs.declared.fault.QueryFault.TheVariants as fault
 use Rattle.wt_grammar.specs.declared.lexeme.Kind.{Kind}
 use Rattle.wt_grammar.specs.declared.lexeme.Kind.TheVariants.{Mark}
 use Rattle.wt_grammar.specs.declared.lexeme.Lexeme.{Lexeme}
-use Rattle.wt_grammar.specs.Lexemes.{Tokens, kind, place, is_select, is_open, is_close, is_comma}
+use Rattle.wt_grammar.specs.Lexemes.{Tokens, kind, is_open, is_close, is_comma}
 use Rattle.wt_grammar.specs.Reading.{Refusal, refused}
-use Rattle.wt_sentence.specs.Grammar.{Seq, Is, Column, Body, deeper}
+use Rattle.wt_sentence.specs.Grammar.{Column}
+use Rattle.wt_viable.specs.Sentences.{BeginsSome, IsSentence, Parts}
 
 -- How many tokens show a refusal at a token of this kind: one, but `-` and what is no number, `(` and SELECT, and NOT IN
 -- `(` SELECT.
@@ -33,18 +34,10 @@ Speaks (refused fault.TooDeep) levels = levels ≤ 32
 Speaks _ levels = Unit {0}
 
 module _ (end : ℕ) (bytes : List ℕ) where
-  -- a statement with so many levels of nesting
-  abbrev pub IsSentence : ℕ → QueryTree → Tokens → Type 0
-  IsSentence levels q = Seq (Is is_select) (Body end bytes (deeper end bytes levels) q)
-
-  -- some sentence, of any depth, begins with these tokens
-  abbrev pub BeginsSome : Tokens → Type 0
-  BeginsSome ts = (levels : ℕ) × (more : Tokens) × (q : QueryTree) × IsSentence levels q (ts ++ more)
-
-  -- no sentence goes on, behind the first tokens, with the next n
+  -- no sentence goes on, behind the tokens before, with the first n of those behind
   abbrev pub NoneGoesOn : (ℕ → Type 0) → ℕ → Tokens → Tokens → Type 0
   NoneGoesOn Depth n before behind =
-      (levels : ℕ) (q : QueryTree) (next : Tokens) → Depth levels → take n next ≡ take n behind → IsSentence levels q (before ++ next) → ⊥
+      (levels : ℕ) (q : QueryTree) (next : Tokens) → Depth levels → take n next ≡ take n behind → IsSentence end bytes levels q (before ++ next) → ⊥
 
   -- A `(` and a column stand before, and a `,` or `)` behind: what may still become a tuple, and was read as a condition
   -- in parentheses, for its `)` is not followed by IN.
@@ -56,10 +49,6 @@ module _ (end : ℕ) (bytes : List ℕ) where
   abbrev pub Ends : Refusal → Tokens → Tokens → Type 0
   Ends why before behind = NoneGoesOn (Speaks why) (looked why (kind behind)) before behind ⊎ ((why ≡ refused fault.Syntax) × IsNoTuple before behind)
 
-  -- the tokens up to a place, and those behind it
-  abbrev pub Parts : (Tokens → Tokens → Type 0) → Tokens → ℕ → Type 0
-  Parts Holds ts at = (before : Tokens) × (behind : Tokens) × (ts ≡ before ++ behind) × (at ≡ place end behind) × Holds before behind
-
   -- a refusal is at the first tokens with which no sentence goes on
   abbrev pub StandsAt : Refusal → Tokens → ℕ → Type 0
-  StandsAt why ts at = Parts (λ before behind. BeginsSome before × Ends why before behind) ts at
+  StandsAt why ts at = Parts end bytes (λ before behind. BeginsSome end bytes before × Ends why before behind) ts at

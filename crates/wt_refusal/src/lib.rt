@@ -9,13 +9,8 @@ ghost use Rattle.wt_grammar.specs.Reading.{Refusal, refused, statement};
 ghost use Rattle.wt_grammar.specs.Statements.{File, Statement, answer, file_of};
 ghost use Rattle.wt_grammar.specs.Words.{lexeme};
 ghost use Rattle.wt_grammar.specs.declared.fault.QueryFault.{QueryFault};
-ghost use Rattle.wt_refusal.specs.Refused.{BeginsSome, Ends, Parts, StandsAt, is_of_grammar};
-
-/// The tokens before a refusal begin a sentence of the grammar.
-pub fn what_stands_before_a_refusal_begins_a_sentence()
-    ensures { (end : ℕ) (bytes : List ℕ) (ts : Tokens) (why : Refusal) (at : ℕ) → statement end bytes ts ≡ Err (why, at)
-        → Parts end bytes (λ before behind. BeginsSome end bytes before) ts at }
-{}
+ghost use Rattle.wt_viable.specs.Sentences.{Parts};
+ghost use Rattle.wt_refusal.specs.Refused.{Ends, StandsAt, is_of_grammar};
 
 /// With the token of a refusal no sentence of the grammar goes on: the tokens before it and it begin none.
 pub fn no_sentence_goes_on_with_a_refusal()

@@ -18,9 +18,9 @@ use Rattle.wt_sentence.proofs.Took.{took_is, list_sound}
 use Rattle.wt_sentence.proofs.Follows.{left_begins}
 use Rattle.wt_sentence.proofs.SoundParts.{any_name_sound, item_sound}
 use Rattle.wt_sentence.proofs.SoundQueries.{SoundBelow, derived_name_sound, primary_sound, words_sound, join_sound, join_some, joined_sound, quantifier_sound}
-use Rattle.wt_refusal.proofs.Begins.{Any, Ending, Begins, Viable, a_token, then_ending, as_ending, listed_one, ok_no_err, plus_err, last_err, begins_at_front, begins_then, begins_as, begins_followed, begins_expect, begins_expected, begins_list}
-use Rattle.wt_refusal.proofs.BeginsParts.{a_name, no_alias, an_item, name_begins, alias_begins, item_begins}
-use Rattle.wt_refusal.proofs.BeginsConditions.{BeginsBelow, a_cond, listed_begins, cond_begins}
+use Rattle.wt_viable.proofs.Begins.{Any, Ending, Begins, Viable, a_token, then_ending, as_ending, listed_one, ok_no_err, plus_err, last_err, begins_at_front, begins_then, begins_as, begins_followed, begins_expect, begins_expected, begins_list}
+use Rattle.wt_viable.proofs.BeginsParts.{a_name, no_alias, an_item, name_begins, alias_begins, item_begins}
+use Rattle.wt_viable.proofs.BeginsConditions.{BeginsBelow, a_cond, listed_begins, cond_begins}
 
 module _ (end : ℕ) (bytes : List ℕ) where
   -- ---- names behind queries, and the words of a join

@@ -15,11 +15,11 @@ use Rattle.wt_sentence.proofs.Inversions.{chosen, plus_ok}
 use Rattle.wt_sentence.proofs.Took.{Took, took_is, took_then, took_as}
 use Rattle.wt_sentence.proofs.SoundQueries.{SoundBelow, cond_sound, joined_sound, body_sound}
 use Rattle.wt_sentence.proofs.Sound.{sound_below}
-use Rattle.wt_refusal.specs.Refused.{BeginsSome, Parts, IsSentence}
-use Rattle.wt_refusal.proofs.Levels.{Steady, SteadyBelow, steady_below}
-use Rattle.wt_refusal.proofs.Begins.{Any, Ending, Begins, Viable, a_token, then_ending, as_ending, ok_no_err, err_parts, plus_err, followed_err, last_err, begins_at_front, begins_behind, begins_then, begins_as, begins_within}
-use Rattle.wt_refusal.proofs.BeginsConditions.{BeginsBelow, parens_behind, in_parens, a_neg, a_cond, neg_begins, cond_begins}
-use Rattle.wt_refusal.proofs.BeginsQueries.{a_joined, a_select, joined_begins, body_begins}
+use Rattle.wt_viable.specs.Sentences.{BeginsSome, Parts, IsSentence}
+use Rattle.wt_viable.proofs.Levels.{Steady, SteadyBelow, steady_below}
+use Rattle.wt_viable.proofs.Begins.{Any, Ending, Begins, Viable, a_token, then_ending, as_ending, ok_no_err, err_parts, plus_err, followed_err, last_err, begins_at_front, begins_behind, begins_then, begins_as, begins_within}
+use Rattle.wt_viable.proofs.BeginsConditions.{BeginsBelow, parens_behind, in_parens, a_neg, a_cond, neg_begins, cond_begins}
+use Rattle.wt_viable.proofs.BeginsQueries.{a_joined, a_select, joined_begins, body_begins}
 
 -- what is read is read the same with more levels
 steady_ok : {A : Type 0} (r s : Read A) (x : A × ℕ) → Steady r s → r ≡ Ok x → s ≡ Ok x

@@ -20,7 +20,7 @@ use Rattle.wt_sentence.specs.Grammar as spec
 use Rattle.wt_sentence.proofs.Inversions.{chosen}
 use Rattle.wt_sentence.proofs.Took.{Sound, took_as, took_is}
 use Rattle.wt_sentence.proofs.SoundParts.{named, column_sound, operand_by_sound, front_sound}
-use Rattle.wt_refusal.proofs.Begins.{Any, Ending, Begins, Viable, token_of, as_ending, ok_no_err, plus_err, followed_err, last_err, err_parts, begins_here, begins_at_front, begins_behind, begins_then, begins_as, begins_followed}
+use Rattle.wt_viable.proofs.Begins.{Any, Ending, Begins, Viable, token_of, as_ending, ok_no_err, plus_err, followed_err, last_err, err_parts, begins_here, begins_at_front, begins_behind, begins_then, begins_as, begins_followed}
 
 module _ (end : ℕ) (bytes : List ℕ) where
   -- ---- short sentences

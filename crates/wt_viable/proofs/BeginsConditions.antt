@@ -22,8 +22,8 @@ use Rattle.wt_sentence.proofs.Inversions.{chosen}
 use Rattle.wt_sentence.proofs.Took.{Took, Sound, took_is, list_sound}
 use Rattle.wt_sentence.proofs.SoundParts.{column_sound, operand_sound, literal_sound}
 use Rattle.wt_sentence.proofs.SoundQueries.{SoundBelow, listed_sound, neg_sound, conj_sound}
-use Rattle.wt_refusal.proofs.Begins.{Any, Ending, Begins, Viable, token_of, a_token, then_ending, as_ending, listed_one, run_one, plus_err, last_err, err_parts, begins_at_front, begins_then, begins_as, begins_followed, begins_expect, begins_expected, begins_within, begins_list, begins_run}
-use Rattle.wt_refusal.proofs.BeginsParts.{a_column, an_operand, a_literal, column_begins, operand_begins, literal_begins}
+use Rattle.wt_viable.proofs.Begins.{Any, Ending, Begins, Viable, token_of, a_token, then_ending, as_ending, listed_one, run_one, plus_err, last_err, err_parts, begins_at_front, begins_then, begins_as, begins_followed, begins_expect, begins_expected, begins_within, begins_list, begins_run}
+use Rattle.wt_viable.proofs.BeginsParts.{a_column, an_operand, a_literal, column_begins, operand_begins, literal_begins}
 
 -- Wherever what stands one level deeper refuses, the tokens before it begin a sentence one level deeper.
 pub record BeginsBelow (end : ℕ) (ns : Nest) (d : Deeper) : Type 0 where

@@ -254,16 +254,16 @@ fn table_links(
     tables: &[TableRead],
     places: &[KeyPlaces],
     columns: &[Column],
-    open: &[OpenReference],
+    unlinked: &[OpenReference],
 ) -> Result<References, DdlError>
     requires few { length tables.now ≤ 256 }
     requires narrow { All (λ t. length t.columns ≤ 64) tables.now }
-    ensures { Agrees result (in_turn (spec.link_one tables.now columns.now) [] open.now) }
+    ensures { Agrees result (in_turn (spec.link_one tables.now columns.now) [] unlinked.now) }
 {
     let mut done = References::new(alloc);
     let mut i = 0;
-    'references: while i < open.len() {
-        link_one(alloc, tables, places, columns, &mut done, &open[i])?;
+    'references: while i < unlinked.len() {
+        link_one(alloc, tables, places, columns, &mut done, &unlinked[i])?;
         i += 1;
     }
     Ok(done)

@@ -7,10 +7,9 @@ use Rattle.std.proofs.lemmas.Bool.Decides.{nat_tests}
 use Rattle.std.proofs.lemmas.List.Elements.{All-push, All-nil, All-cons, All-head, All-tail}
 use Rattle.std.proofs.lemmas.List.Kept.{AllPairs-cons}
 use Rattle.wt_schema.specs.declared.schema.Column.{Column}
-use Rattle.wt_schema.specs.declared.schema.Key.{Key}
 use Rattle.wt_schema.specs.declared.schema.Reference.{Reference}
 use Rattle.wt_schema.specs.declared.schema.Table.{Table}
-use Rattle.wt_schema.specs.Lawful.{IsName, IsKey, IsReference, IsTable, IsSchema, width_of}
+use Rattle.wt_schema.specs.Lawful.{IsName, IsReference, IsTable, IsSchema, width_of}
 use Rattle.wt_ddl.specs.declared.fault.DdlError.{DdlError}
 use Rattle.wt_ddl.specs.declared.draft.Named.{Named}
 use Rattle.wt_ddl.specs.declared.draft.OpenReference.{OpenReference}

@@ -1,5 +1,5 @@
 -- What is read is a sentence of the grammar.
-use Rattle.std.proofs.Common.{◌≡◌, ◌≢◌, ℕ, zero, suc, ◌+◌, ◌-◌, ◌<◌, ◌≤◌, Bool, true, false, not, ◌⊎◌, inl, inr, List, [], ◌∷◌, ◌++◌, length, drop, refl, ap, sym, ◌∙◌, subst, arith, length-append, append_assoc, append-nil, Option, Some, None, Result, Ok, Err}
+use Rattle.std.proofs.Common.{◌≡◌, ◌≢◌, ℕ, zero, suc, ◌-◌, ◌≤◌, Bool, true, false, ◌⊎◌, inl, inr, List, [], ◌∷◌, ◌++◌, length, drop, refl, ap, sym, ◌∙◌, subst, arith, length-append, append_assoc, append-nil, Result, Ok, Err}
 use Rattle.std.specs.Prelude.{if◌then◌else◌, ◌==◌, ◌||◌, ◌&&◌, nat_le, codes}
 use Rattle.std.proofs.lemmas.Bool.{cond_both}
 use Rattle.std.proofs.lemmas.Bool.Decides.{nat_tests}
@@ -12,10 +12,9 @@ use Rattle.wt_ddl.specs.declared.fault.DdlError.{DdlError}
 use Rattle.wt_ddl.specs.declared.fault.DdlFault.TheVariants as fault
 use Rattle.wt_ddl.specs.declared.draft.ColumnList.TheVariants as lists
 use Rattle.wt_ddl.specs.declared.draft.Named.{Named}
-use Rattle.wt_ddl.specs.declared.draft.Target.{Target}
 use Rattle.wt_ddl.specs.declared.draft.TableDraft.{TableDraft}
 use Rattle.wt_ddl.specs.declared.draft.TableRead.{TableRead}
-use Rattle.wt_ddl.specs.Fronts.{Tokens, is_end, at_kind, at_word, is_open, is_close, is_comma, is_semi, is_some_word, is_name}
+use Rattle.wt_ddl.specs.Fronts.{Tokens, at_kind, at_word, is_open, is_close, is_comma, is_semi, is_some_word, is_name}
 use Rattle.wt_ddl.specs.Grammar as grammar
 use Rattle.wt_ddl.specs.Grammar.{Part, Then, Either, Maybe, Many, Pieces, Sign}
 use Rattle.wt_ddl.specs.Reading as spec

@@ -1,5 +1,5 @@
 -- A lot among the pairs of the bounds.
-use Rattle.std.proofs.Common.{◌≡◌, ℕ, zero, suc, ◌+◌, ◌≤◌, Bool, true, false, List, [], ◌∷◌, ◌++◌, map, length, take, drop, Option, Some, None, inl, inr, refl, sym, ap, ◌∙◌, arith, length-append, length-drop, length-take, append_assoc}
+use Rattle.std.proofs.Common.{◌≡◌, ℕ, ◌+◌, ◌≤◌, Bool, true, false, List, [], ◌∷◌, ◌++◌, map, length, take, drop, Option, Some, None, inl, inr, refl, sym, ap, ◌∙◌, arith, length-append, length-drop, length-take, append_assoc}
 use Rattle.std.proofs.lemmas.List.{append-nil, drop-drop, drop_at, take_at, take_all, take-append-drop, nil_from_length}
 use Rattle.std.specs.Prelude.{All, filter, is_none, if◌then◌else◌}
 use Rattle.std.proofs.lemmas.List.{length-map}

@@ -359,7 +359,7 @@ fn unmarked(alloc: Global, text: &str) -> Result<Marked, AllocError> {
     let mut bytes = Vec::new(alloc);
     let mut at = 0;
     let mut statement = 0;
-    let mut semicolons = 0;
+    let mut semicolons: u32 = 0;
     for byte in text.as_bytes() {
         match *byte {
             b'^' => {
@@ -368,7 +368,7 @@ fn unmarked(alloc: Global, text: &str) -> Result<Marked, AllocError> {
             }
             other => {
                 if other == b';' {
-                    semicolons += 1;
+                    semicolons = semicolons.saturating_add(1);
                 }
                 bytes.push(other)?;
             }

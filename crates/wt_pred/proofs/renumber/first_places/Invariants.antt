@@ -1,0 +1,6 @@
+use Rattle.std.proofs.Common.{◌≡◌, ℕ, nat_eq, position, take}
+use Rattle.indexmap.specs.IndexMap.{get}
+use Rattle.wt_pred.proofs.renumber.first_places.Given as goal
+
+abbrev pub invariant-loop-i : goal.invariant-loop-i
+invariant-loop-i l = (c : ℕ) → get nat_eq l.places c ≡ position (nat_eq c) (take l.i l.column-items)

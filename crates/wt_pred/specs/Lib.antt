@@ -1,0 +1,5 @@
+pub mod Tree
+pub mod Meaning
+pub mod Columns
+pub mod Nulls
+pub mod Places

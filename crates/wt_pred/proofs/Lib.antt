@@ -1,2 +1,5 @@
 pub mod Connectives
+pub mod Inserting
 pub mod Lists
+pub mod NullLaws
+pub mod Numbering

@@ -15,3 +15,5 @@ before_none (p ∷ ps) = ap (pred_then (pred_tree p)) (before_none ps)
 pub before_last : (ps : List Pred) (p : Pred) (others : PredTrees) → before (ps ++ p ∷ []) others ≡ before ps (pred_then (pred_tree p) others)
 before_last [] p others = refl
 before_last (x ∷ ps) p others = ap (pred_then (pred_tree x)) (before_last ps p others)
+
+pub ruleset befores = (before_none, before_last)

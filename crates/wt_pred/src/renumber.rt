@@ -1,6 +1,6 @@
 //! A predicate with other numbers of its columns.
-ghost use Rattle.std.specs.Prelude.{◌≡◌, ℕ, nat_eq, position, IsSome, IfOk, OnOk, is_some, if◌then◌else◌, Some};
-ghost use Rattle.std.specs.Option.{unwrap_or};
+ghost use Rattle.std.specs.Prelude.{◌≡◌, ℕ, nat_eq, IsSome, IfOk, OnOk, is_some, if◌then◌else◌, Some};
+ghost use Rattle.std.specs.List.{position_from};
 ghost use Rattle.indexmap.specs.IndexMap.{get};
 ghost use Rattle.wt_bag.specs.Bags.{Each};
 ghost use Rattle.wt_bag.specs.Choices.{Has};
@@ -40,13 +40,19 @@ fn note(places: &mut Places, column: u32, place: u32) -> Result<(), WantOfMemory
     Ok(())
 }
 
+/// The place as a number of the type of columns.
+fn place_number(place: usize) -> Result<u32, WantOfMemory>
+    ensures { IfOk result (λ number. number ≡ place) }
+{
+    u32::try_from(place).map_err(|_| AllocError)
+}
+
 fn first_places(alloc: Global, cols: &Cols) -> Result<Places, WantOfMemory>
-    ensures { IfOk result (λ places. (c : ℕ) → get nat_eq places c ≡ position (nat_eq c) cols.now) }
+    ensures { IfOk result (λ places. (c : ℕ) → get nat_eq places c ≡ position_from (nat_eq c) 0 cols.now) }
 {
     let mut places = IndexMap::new(alloc);
     for (i, column) in cols.as_slice().iter().enumerate() {
-        let place = u32::try_from(i).map_err(|_| AllocError)?;
-        note(&mut places, *column, place)?;
+        note(&mut places, *column, place_number(i)?)?;
     }
     Ok(places)
 }
@@ -71,6 +77,7 @@ fn renumber_operand(places: &Places, operand: &Operand) -> Result<Operand, WantO
     }
 }
 
+#[tactic(auto, using(crate::proofs::Lists::befores))]
 #[cycle(renumber)]
 fn renumber_by(alloc: Global, places: &Places, pred: &Pred) -> Result<Pred, WantOfMemory>
     requires { HasAll places.now (occurring (pred_tree pred.now)) }
@@ -96,6 +103,7 @@ fn renumber_by(alloc: Global, places: &Places, pred: &Pred) -> Result<Pred, Want
     }
 }
 
+#[tactic(auto, using(crate::proofs::Lists::befores))]
 #[cycle(renumber)]
 fn renumber_parts(alloc: Global, places: &Places, parts: &Preds) -> Result<Preds, WantOfMemory>
     requires { HasAll places.now (occurring_in (preds_tree parts.now)) }

@@ -74,6 +74,7 @@ impl Preds {
 
 impl Pred {
     /// The same predicate.
+    #[tactic(auto, using(crate::proofs::Lists::befores))]
     #[cycle(copy)]
     pub fn copy(&self, alloc: Global) -> Result<Pred, WantOfMemory>
         ensures { IfOk result (λ p. pred_tree p ≡ pred_tree self.now) }
@@ -90,6 +91,7 @@ impl Pred {
     }
 }
 
+#[tactic(auto, using(crate::proofs::Lists::befores))]
 #[cycle(copy)]
 fn copy_parts(alloc: Global, parts: &Preds) -> Result<Preds, WantOfMemory>
     ensures { IfOk result (λ list. preds_tree list ≡ preds_tree parts.now) }
@@ -103,6 +105,71 @@ fn copy_parts(alloc: Global, parts: &Preds) -> Result<Preds, WantOfMemory>
                 copied.push(part.copy(alloc)?)?;
                 rest = more;
             }
+        }
+    }
+}
+
+impl Pred {
+    /// Whether both are the same predicate.
+    #[cycle(same)]
+    pub fn same(&self, other: &Pred) -> bool
+        ensures { IsTrue result ↔ (pred_tree self.now ≡ pred_tree other.now) }
+    {
+        match self {
+            Pred::Compare(cmp, a, b) => match other {
+                Pred::Compare(their_cmp, c, d) => cmp == their_cmp && a == c && b == d,
+                _ => false,
+            },
+            Pred::IsNull(column) => match other {
+                Pred::IsNull(theirs) => column == theirs,
+                _ => false,
+            },
+            Pred::IsNotNull(column) => match other {
+                Pred::IsNotNull(theirs) => column == theirs,
+                _ => false,
+            },
+            Pred::InList(column, values) => match other {
+                Pred::InList(theirs, their_values) => column == theirs && values == their_values,
+                _ => false,
+            },
+            Pred::And(parts) => match other {
+                Pred::And(theirs) => same_parts(parts, theirs),
+                _ => false,
+            },
+            Pred::Or(parts) => match other {
+                Pred::Or(theirs) => same_parts(parts, theirs),
+                _ => false,
+            },
+            Pred::Not(inner) => match other {
+                Pred::Not(theirs) => inner.same(theirs),
+                _ => false,
+            },
+        }
+    }
+}
+
+#[cycle(same)]
+fn same_parts(parts: &Preds, others: &Preds) -> bool
+    ensures { IsTrue result ↔ (preds_tree parts.now ≡ preds_tree others.now) }
+{
+    let mut rest = parts;
+    let mut theirs = others;
+    'parts: loop {
+        match rest {
+            Preds::Empty => match theirs {
+                Preds::Empty => return true,
+                Preds::More(_, _) => return false,
+            },
+            Preds::More(part, more) => match theirs {
+                Preds::Empty => return false,
+                Preds::More(their_part, their_more) => {
+                    if !part.same(their_part) {
+                        return false;
+                    }
+                    rest = more;
+                    theirs = their_more;
+                }
+            },
         }
     }
 }

@@ -3,3 +3,4 @@ pub mod Inserting
 pub mod Lists
 pub mod NullLaws
 pub mod Numbering
+pub mod Using

@@ -61,7 +61,11 @@ fn comparison(cmp: Cmp, a: &Operand, b: &Operand, row: &Row) -> Truth
     ensures { result ≡ meaning.comparison cmp (value_of row.now a.now) (value_of row.now b.now) }
 {
     let null = Value::Null;
-    compare(cmp, operand_value(a, row, &null), operand_value(b, row, &null))
+    compare(
+        cmp,
+        operand_value(a, row, &null),
+        operand_value(b, row, &null),
+    )
 }
 
 impl Pred {

@@ -3,7 +3,7 @@ ghost use Rattle.std.specs.Prelude.{◌≡◌, ◌↔◌, IfOk, IsTrue};
 ghost use Rattle.wt_pred.specs.Tree.{pred_tree, preds_tree, pred_trees};
 
 use std::alloc::Global;
-use wt_value::{Value, Values, WantOfMemory};
+use wt_value::{Value, Values, WantOfMemory, same_row};
 
 /// How two operands are compared: `=`, `<>`, `<`, `<=`, `>`, `>=`.
 #[derive(Clone, Copy, Debug, PartialEq, Eq)]
@@ -109,6 +109,12 @@ fn copy_parts(alloc: Global, parts: &Preds) -> Result<Preds, WantOfMemory>
     }
 }
 
+fn same_operand(a: &Operand, b: &Operand) -> bool
+    ensures { IsTrue result ↔ (a.now ≡ b.now) }
+{
+    a == b
+}
+
 impl Pred {
     /// Whether both are the same predicate.
     #[cycle(same)]
@@ -117,7 +123,9 @@ impl Pred {
     {
         match self {
             Pred::Compare(cmp, a, b) => match other {
-                Pred::Compare(their_cmp, c, d) => cmp == their_cmp && a == c && b == d,
+                Pred::Compare(their_cmp, c, d) => cmp == their_cmp
+                    && same_operand(a, c)
+                    && same_operand(b, d),
                 _ => false,
             },
             Pred::IsNull(column) => match other {
@@ -129,7 +137,8 @@ impl Pred {
                 _ => false,
             },
             Pred::InList(column, values) => match other {
-                Pred::InList(theirs, their_values) => column == theirs && values == their_values,
+                Pred::InList(theirs, their_values) => column == theirs
+                    && same_row(values, their_values),
                 _ => false,
             },
             Pred::And(parts) => match other {

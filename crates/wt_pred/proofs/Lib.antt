@@ -3,4 +3,5 @@ pub mod Inserting
 pub mod Lists
 pub mod NullLaws
 pub mod Numbering
+pub mod TruthLaws
 pub mod Using

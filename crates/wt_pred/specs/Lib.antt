@@ -3,3 +3,4 @@ pub mod Meaning
 pub mod Columns
 pub mod Nulls
 pub mod Places
+pub mod Laws

@@ -3,6 +3,7 @@ ghost use Rattle.std.specs.Prelude.{◌≡◌, nat_eq, [], ◌∷◌, IfOk, OnOk
 ghost use Rattle.indexmap.specs.IndexSet.{insert_all};
 ghost use Rattle.wt_pred.specs.Tree.{pred_tree, preds_tree};
 ghost use Rattle.wt_pred.specs.Columns as spec;
+ghost use Rattle.wt_pred.specs.Laws.{DependsOn};
 
 use crate::tree::{Operand, Pred, Preds};
 use indexmap::IndexSet;
@@ -12,7 +13,8 @@ use wt_value::{Cols, WantOfMemory};
 impl Pred {
     /// The columns of the predicate, each once, in the order of their first use.
     pub fn columns(&self, alloc: Global) -> Result<Cols, WantOfMemory>
-        ensures { IfOk result (λ cols. cols ≡ spec.columns (pred_tree self.now)) }
+        ensures exact { IfOk result (λ cols. cols ≡ spec.columns (pred_tree self.now)) }
+        ensures law { IfOk result (λ cols. DependsOn cols (pred_tree self.now)) }
     {
         let mut seen = IndexSet::new(alloc);
         add_columns(self, &mut seen)?;

@@ -6,6 +6,7 @@ ghost use Rattle.wt_bag.specs.Bags.{Each};
 ghost use Rattle.wt_bag.specs.Choices.{Has};
 ghost use Rattle.wt_pred.specs.Tree.{pred_tree, preds_tree};
 ghost use Rattle.wt_pred.specs.Columns.{occurring, occurring_in, operand_columns, operand_renumbered, renumbered, all_renumbered, place_in};
+ghost use Rattle.wt_pred.specs.Laws.{KeepsTruth};
 ghost use Rattle.wt_pred.specs.Places.{HasAll, number_by};
 
 use crate::tree::{Operand, Pred, Preds};
@@ -19,25 +20,16 @@ type Places = IndexMap<u32, u32>;
 impl Pred {
     /// The predicate in which each column has the number of its first place in `cols`.
     ///
-    /// A list of more than 2^32 places has some column twice. A place has to be a number of the type, so such a list is
-    /// answered as want of memory.
+    /// In a list that has columns twice a first place may stand past the last number of 2^32. That is answered as want of
+    /// memory.
     pub fn renumber(&self, alloc: Global, cols: &Cols) -> Result<Pred, WantOfMemory>
         requires there { Each (λ c. Has c cols.now) (occurring (pred_tree self.now)) }
-        ensures { IfOk result (λ p. pred_tree p ≡ renumbered (place_in cols.now) (pred_tree self.now)) }
+        ensures exact { IfOk result (λ p. pred_tree p ≡ renumbered (place_in cols.now) (pred_tree self.now)) }
+        ensures law { IfOk result (λ p. KeepsTruth cols.now (pred_tree self.now) (pred_tree p)) }
     {
         let places = first_places(alloc, cols)?;
         renumber_by(alloc, &places, self)
     }
-}
-
-/// Notes the place of a column that has none yet.
-fn note(places: &mut Places, column: u32, place: u32) -> Result<(), WantOfMemory>
-    ensures { OnOk result ((c : ℕ) → get nat_eq places.new c ≡ (if nat_eq column c then (if is_some (get nat_eq places.old c) then get nat_eq places.old c else Some place) else get nat_eq places.old c)) }
-{
-    if !places.contains_key(&column) {
-        places.insert(column, place)?;
-    }
-    Ok(())
 }
 
 /// The place as a number of the type of columns.
@@ -47,12 +39,22 @@ fn place_number(place: usize) -> Result<u32, WantOfMemory>
     u32::try_from(place).map_err(|_| AllocError)
 }
 
+/// Notes the place of a column that has none yet.
+fn note(places: &mut Places, column: u32, place: usize) -> Result<(), WantOfMemory>
+    ensures { OnOk result ((c : ℕ) → get nat_eq places.new c ≡ (if nat_eq column c then (if is_some (get nat_eq places.old c) then get nat_eq places.old c else Some place) else get nat_eq places.old c)) }
+{
+    if !places.contains_key(&column) {
+        places.insert(column, place_number(place)?)?;
+    }
+    Ok(())
+}
+
 fn first_places(alloc: Global, cols: &Cols) -> Result<Places, WantOfMemory>
     ensures { IfOk result (λ places. (c : ℕ) → get nat_eq places c ≡ position_from (nat_eq c) 0 cols.now) }
 {
     let mut places = IndexMap::new(alloc);
     for (i, column) in cols.as_slice().iter().enumerate() {
-        note(&mut places, *column, place_number(i)?)?;
+        note(&mut places, *column, i)?;
     }
     Ok(places)
 }

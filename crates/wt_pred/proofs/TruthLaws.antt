@@ -21,7 +21,6 @@ use Rattle.wt_pred.proofs.Using.{columns_there}
 
 -- two rows, and numbers by which the one has at each column what the other has there
 module _ (number : ℕ → ℕ) (row other : List Value) where
-
   same_value : (o : Operand) → Each (λ c. value_at other (number c) ≡ value_at row c) (operand_columns o) → value_of other (operand_renumbered number o) ≡ value_of row o
   same_value (Column column) h = h.0
   same_value (Constant value) h = refl

@@ -100,7 +100,6 @@ fn pred(alloc: Global, steps: &[Step]) -> Result<Pred, AllocError> {
 }
 
 // The predicate by its own columns, with others before them.
-#[tactic(auto, using(crate::proofs::Using::columns_there))]
 fn by_columns_behind(alloc: Global, p: &Pred, front: &[u32]) -> Result<Pred, AllocError> {
     let own = p.columns(alloc)?;
     let mut cols = Vec::from_slice(alloc, front)?;

@@ -1,7 +1,13 @@
-use Rattle.std.proofs.Common.{◌∙◌}
+use Rattle.std.proofs.Common.{◌≡◌, ◌∙◌, ◌++◌}
 use Rattle.wt_pred.specs.Tree.{pred_tree}
+use Rattle.wt_pred.specs.Columns.{columns}
 use Rattle.wt_pred.proofs.Using.{columns_there}
 use Rattle.wt_pred.proofs.tests.by_columns_behind.Goals as goal
 
 pub renumber-requires : goal.renumber-requires
-renumber-requires c = columns_there c.args.front.now ? (pred_tree c.args.p.now) ?
+renumber-requires c =
+    let front = c.args.front.now in
+    let own = columns (pred_tree c.args.p.now) in
+    let joined : c.from_vec.result ≡ front ++ own =
+    c.from_vec.ensures ∙ c.in_ok-extend_from_slice.ensures.items ∙ (λ i. c.in_ok-cols.ensures.items i ++ (c.as_slice.ensures ∙ c.in_ok-own.ensures.exact) i) in
+    record { there = columns_there front c.from_vec.result (pred_tree c.args.p.now) joined }

@@ -1,5 +1,5 @@
 -- Laws of three truth values.
-use Rattle.std.proofs.Common.{◌≡◌, ◌≢◌, List, [], ◌∷◌, map, drop, length, get_or, refl, sym, ap, ◌∙◌}
+use Rattle.std.proofs.Common.{◌≡◌, ◌≢◌, refl}
 use Rattle.wt_value.specs.declared.value.Truth.{Truth}
 use Rattle.wt_value.specs.declared.value.Truth.TheVariants.{False, Unknown, True}
 use Rattle.wt_value.specs.Truths.{and_of, or_of, not_of}

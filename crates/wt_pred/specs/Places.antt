@@ -1,5 +1,5 @@
 -- The places of columns, as a map has them.
-use Rattle.std.specs.Prelude.{◌≡◌, ℕ, List, nat_eq, IsSome}
+use Rattle.std.specs.Prelude.{ℕ, List, nat_eq, IsSome}
 use Rattle.std.specs.Option.{unwrap_or}
 use Rattle.indexmap.specs.IndexMap.{IndexMap, get}
 use Rattle.wt_bag.specs.Bags.{Each}

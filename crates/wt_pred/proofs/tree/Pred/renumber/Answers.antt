@@ -1,4 +1,4 @@
-use Rattle.std.proofs.Common.{◌≡◌, IfOk, Result, Ok, Err, subst, sym, ◌∙◌}
+use Rattle.std.proofs.Common.{◌≡◌, IfOk, Result, Ok, Err, subst, sym}
 use Rattle.wt_pred.specs.declared.tree.Pred.{Pred}
 use Rattle.wt_pred.specs.Tree.{PredTree, pred_tree}
 use Rattle.wt_pred.specs.Columns.{occurring, renumbered, place_in}

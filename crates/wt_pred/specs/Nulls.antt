@@ -14,7 +14,7 @@ abbrev pub is_column : ℕ → Operand → Bool
 is_column pos (Column column) = pos == column
 is_column pos (Constant value) = false
 
--- whether all of the tests hold, and whether some of them does
+-- whether all of the tests hold, and whether one of them does
 abbrev pub every : List Bool → Bool
 every bs = list_all (λ b. b) bs
 

@@ -22,23 +22,20 @@ impl Pred {
     }
 }
 
-fn add_operand(operand: &Operand, seen: &mut IndexSet<u32>) -> Result<(), WantOfMemory>
-    ensures { OnOk result (seen.new.keys ≡ insert_all nat_eq seen.old.keys (spec.operand_columns operand.now)) }
-{
-    match operand {
-        Operand::Column(column) => {
-            seen.insert(*column)?;
-        }
-        Operand::Constant(_) => (),
-    }
-    Ok(())
-}
-
 fn add_column(column: u32, seen: &mut IndexSet<u32>) -> Result<(), WantOfMemory>
     ensures { OnOk result (seen.new.keys ≡ insert_all nat_eq seen.old.keys (column ∷ [])) }
 {
     seen.insert(column)?;
     Ok(())
+}
+
+fn add_operand(operand: &Operand, seen: &mut IndexSet<u32>) -> Result<(), WantOfMemory>
+    ensures { OnOk result (seen.new.keys ≡ insert_all nat_eq seen.old.keys (spec.operand_columns operand.now)) }
+{
+    match operand {
+        Operand::Column(column) => add_column(*column, seen),
+        Operand::Constant(_) => Ok(()),
+    }
 }
 
 #[cycle(columns)]

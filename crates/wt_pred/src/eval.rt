@@ -72,7 +72,7 @@ impl Pred {
     /// The truth of the predicate at the row.
     #[cycle(eval)]
     pub fn eval(&self, row: &Row) -> Truth
-        ensures { result ≡ meaning.truth (pred_tree self.now) row.now }
+        ensures exact { result ≡ meaning.truth (pred_tree self.now) row.now }
     {
         match self {
             Pred::Compare(cmp, a, b) => comparison(*cmp, a, b, row),

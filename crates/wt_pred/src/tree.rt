@@ -62,7 +62,7 @@ impl Drop for Preds {
 impl Preds {
     /// These predicates as a list. It is built from the last one back.
     pub fn from_vec(alloc: Global, mut parts: Vec<Pred>) -> Result<Preds, WantOfMemory>
-        ensures { IfOk result (λ list. preds_tree list ≡ pred_trees parts.items) }
+        ensures exact { IfOk result (λ list. preds_tree list ≡ pred_trees parts.items) }
     {
         let mut list = Preds::Empty;
         'parts: while let Some(part) = parts.pop() {
@@ -77,7 +77,7 @@ impl Pred {
     #[tactic(auto, using(crate::proofs::Lists::befores))]
     #[cycle(copy)]
     pub fn copy(&self, alloc: Global) -> Result<Pred, WantOfMemory>
-        ensures { IfOk result (λ p. pred_tree p ≡ pred_tree self.now) }
+        ensures exact { IfOk result (λ p. pred_tree p ≡ pred_tree self.now) }
     {
         match self {
             Pred::Compare(cmp, a, b) => Ok(Pred::Compare(*cmp, a.clone()?, b.clone()?)),
@@ -119,7 +119,7 @@ impl Pred {
     /// Whether both are the same predicate.
     #[cycle(same)]
     pub fn same(&self, other: &Pred) -> bool
-        ensures { IsTrue result ↔ (pred_tree self.now ≡ pred_tree other.now) }
+        ensures exact { IsTrue result ↔ (pred_tree self.now ≡ pred_tree other.now) }
     {
         match self {
             Pred::Compare(cmp, a, b) => match other {

@@ -12,7 +12,7 @@ copy_parts-parts-preserved t c =
       copied_so_far =
           ap (λ l. before l (preds_tree c.deref-rest.result.now)) c.in_ok-push-in-More.ensures.items
           ∙ before_last copied c.in_ok-copy-in-More.field-0 (preds_tree c.deref-rest.result.now)
-          ∙ ap (λ p. before copied (pred_then p (preds_tree c.deref-rest.result.now))) (c.in_ok-copy-in-More.ensures ∙ ap pred_tree c.deref.ensures)
+          ∙ ap (λ p. before copied (pred_then p (preds_tree c.deref-rest.result.now))) (c.in_ok-copy-in-More.ensures.exact ∙ ap pred_tree c.deref.ensures)
           ∙ ap (λ r. before copied (pred_then (pred_tree c.in-More.part.value) (preds_tree r))) c.deref-rest.ensures
           ∙ ap (λ r. before copied (preds_tree r)) (sym c.in-More.is)
           ∙ c.parts.invariant.copied_so_far;

@@ -20,8 +20,8 @@ type Places = IndexMap<u32, u32>;
 impl Pred {
     /// The predicate in which each column has the number of its first place in `cols`.
     ///
-    /// In a list that has columns twice a first place may stand past the last number of 2^32. That is answered as want of
-    /// memory.
+    /// A first place is a number of 32 bits but in a list of more than 2^32 places, which has some column twice. There one
+    /// that is none is answered as want of memory.
     pub fn renumber(&self, alloc: Global, cols: &Cols) -> Result<Pred, WantOfMemory>
         requires there { Each (λ c. Has c cols.now) (occurring (pred_tree self.now)) }
         ensures exact { IfOk result (λ p. pred_tree p ≡ renumbered (place_in cols.now) (pred_tree self.now)) }

@@ -1,5 +1,5 @@
 //! A predicate with other numbers of its columns.
-ghost use Rattle.std.specs.Prelude.{◌≡◌, ℕ, nat_eq, IsSome, IfOk, OnOk, is_some, if◌then◌else◌, Some};
+ghost use Rattle.std.specs.Prelude.{◌≡◌, ◌≤◌, ◌^◌, ℕ, length, nat_eq, IsSome, IfOk, OnOk, is_some, if◌then◌else◌, Some};
 ghost use Rattle.std.specs.List.{position_from};
 ghost use Rattle.indexmap.specs.IndexMap.{get};
 ghost use Rattle.wt_bag.specs.Bags.{Each};
@@ -11,7 +11,7 @@ ghost use Rattle.wt_pred.specs.Places.{HasAll, number_by};
 
 use crate::tree::{Operand, Pred, Preds};
 use indexmap::IndexMap;
-use std::alloc::{AllocError, Global};
+use std::alloc::Global;
 use wt_value::{Cols, WantOfMemory};
 
 /// The first place of each column.
@@ -19,10 +19,9 @@ type Places = IndexMap<u32, u32>;
 
 impl Pred {
     /// The predicate in which each column has the number of its first place in `cols`.
-    ///
-    /// A first place is a number of 32 bits but in a list of more than 2^32 places, which has some column twice. There one
-    /// that is none is answered as want of memory.
     pub fn renumber(&self, alloc: Global, cols: &Cols) -> Result<Pred, WantOfMemory>
+        // A place is a column's number, so it has to be one of 32 bits.
+        requires few { length cols.now ≤ 2 ^ 32 }
         requires there { Each (λ c. Has c cols.now) (occurring (pred_tree self.now)) }
         ensures exact { IfOk result (λ p. pred_tree p ≡ renumbered (place_in cols.now) (pred_tree self.now)) }
         ensures law { IfOk result (λ p. KeepsTruth cols.now (pred_tree self.now) (pred_tree p)) }
@@ -32,29 +31,23 @@ impl Pred {
     }
 }
 
-/// The place as a number of the type of columns.
-fn place_number(place: usize) -> Result<u32, WantOfMemory>
-    ensures { IfOk result (λ number. number ≡ place) }
-{
-    u32::try_from(place).map_err(|_| AllocError)
-}
-
 /// Notes the place of a column that has none yet.
-fn note(places: &mut Places, column: u32, place: usize) -> Result<(), WantOfMemory>
+fn note(places: &mut Places, column: u32, place: u32) -> Result<(), WantOfMemory>
     ensures { OnOk result ((c : ℕ) → get nat_eq places.new c ≡ (if nat_eq column c then (if is_some (get nat_eq places.old c) then get nat_eq places.old c else Some place) else get nat_eq places.old c)) }
 {
     if !places.contains_key(&column) {
-        places.insert(column, place_number(place)?)?;
+        places.insert(column, place)?;
     }
     Ok(())
 }
 
 fn first_places(alloc: Global, cols: &Cols) -> Result<Places, WantOfMemory>
+    requires { length cols.now ≤ 2 ^ 32 }
     ensures { IfOk result (λ places. (c : ℕ) → get nat_eq places c ≡ position_from (nat_eq c) 0 cols.now) }
 {
     let mut places = IndexMap::new(alloc);
     for (i, column) in cols.as_slice().iter().enumerate() {
-        note(&mut places, *column, i)?;
+        note(&mut places, *column, i as u32)?;
     }
     Ok(places)
 }

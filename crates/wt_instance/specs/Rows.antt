@@ -1,8 +1,8 @@
 -- The rows of a side on an instance, by recursion on the side. A row has the name of its column at each value.
-use Rattle.std.specs.Prelude.{◌==◌, ℕ, zero, suc, Bool, ◌&&◌, List, [], ◌∷◌, ◌++◌, map, filter, flat_map, if◌then◌else◌}
+use Rattle.std.specs.Prelude.{◌≡◌, ◌==◌, ℕ, zero, suc, Bool, ◌&&◌, List, [], ◌∷◌, ◌++◌, map, filter, flat_map, if◌then◌else◌}
 use Rattle.std.specs.List.{list_any}
 use Rattle.std.specs.Cmp.Lexicographic.{pointwise}
-use Rattle.wt_bag.specs.Bags.{distinct}
+use Rattle.wt_bag.specs.Bags.{distinct, Each}
 use Rattle.wt_value.specs.declared.value.Value.{Value}
 use Rattle.wt_value.specs.declared.value.Value.TheVariants.{Null}
 use Rattle.wt_value.specs.Values.{Tuple, value_same, row_matches}
@@ -28,6 +28,10 @@ Named = List Cell
 -- the row without the names
 abbrev pub values : Named → Tuple
 values row = map (λ (c : Cell). c.value) row
+
+-- the names of its columns
+abbrev pub names : Named → List Column
+names row = map (λ (c : Cell). c.column) row
 
 -- the value at the first place of the name, NULL where there is none
 abbrev pub value_at : Named → ℕ → ℕ → Value
@@ -92,3 +96,7 @@ named_rows (dedup s) A I = distinct named_same (named_rows s A I)
 -- the rows of a side
 abbrev pub rows_of : SideTree → List ℕ → Instance → List Tuple
 rows_of s A I = map values (named_rows s A I)
+
+-- each row has the columns of the side
+abbrev pub HaveColumns : SideTree → List ℕ → Instance → Type 0
+HaveColumns s A I = Each (λ row. names row ≡ columns_of s A I) (named_rows s A I)

@@ -1,11 +1,14 @@
 //! Instances of a pair.
-ghost use Rattle.std.specs.Prelude.{◌≡◌, [], slice_index_or};
-ghost use Rattle.wt_bag.specs.Bags.{among};
+ghost use Rattle.std.specs.Prelude.{◌≡◌, ◌≢◌, ◌↔◌, ◌<◌, ℕ, List, [], length, slice_index_or, IsTrue, IfOk};
+ghost use Rattle.wt_bag.specs.Bags.{among, Each};
 ghost use Rattle.wt_value.specs.Values.{row_same};
+ghost use Rattle.wt_symbol.specs.Sides.{SideTree, PairTree, pair_of};
 ghost use Rattle.wt_symbol.specs.Heads as heads;
 ghost use Rattle.wt_instance.specs.Instances as spec;
+ghost use Rattle.wt_instance.specs.Rows as rows;
 
-use wt_symbol::Anchors;
+use std::alloc::{AllocError, Global};
+use wt_symbol::{Anchors, Pair};
 use wt_value::{Cols, Row, Rows, Seq, same_row};
 
 /// A number of columns for each leaf.
@@ -56,13 +59,7 @@ impl Instance {
     pub(crate) fn width(&self, leaf: u8) -> u32
         ensures { result ≡ spec.width self.now leaf }
     {
-        let place = leaf as usize;
-        let widths = self.widths.as_slice();
-        if place < widths.len() {
-            widths[place]
-        } else {
-            0
-        }
+        width_at(&self.widths, leaf as usize)
     }
 
     /// The rows of a leaf.
@@ -106,3 +103,87 @@ pub(crate) fn is_among(row: &Row, rows: &[Row]) -> bool
 {
     rows.iter().any(|other| same_row(row, other))
 }
+
+/// Whether each row has this many values.
+fn are_wide(width: u32, mut rows: &[Row]) -> bool
+    ensures { IsTrue result ↔ Each (λ row. length row ≡ width) rows.entry.now }
+{
+    'rows: while let [row, others @ ..] = rows {
+        if row.len() != width as usize {
+            return false;
+        }
+        rows = others;
+    }
+    true
+}
+
+fn width_at(widths: &Widths, place: usize) -> u32
+    ensures { result ≡ slice_index_or widths.now place 0 }
+{
+    let widths = widths.as_slice();
+    if place < widths.len() {
+        widths[place]
+    } else {
+        0
+    }
+}
+
+/// Whether each leaf's rows have its width.
+fn tables_are_wide(instance: &Instance) -> bool
+    ensures { IsTrue result ↔ ((r : ℕ) → r < length instance.now.tables → spec.IsWide instance.now r) }
+{
+    for r in 0..instance.tables.len() {
+        if !are_wide(width_at(&instance.widths, r), rows_at(&instance.tables, r)) {
+            return false;
+        }
+    }
+    true
+}
+
+/// Whether no list is empty.
+fn are_filled(mut lists: &[Cols]) -> bool
+    ensures { IsTrue result ↔ Each (λ list. list ≢ []) lists.entry.now }
+{
+    'lists: while let [list, others @ ..] = lists {
+        if list.is_empty() {
+            return false;
+        }
+        lists = others;
+    }
+    true
+}
+
+/// Whether these are as many widths, tables, lists and predicates as the source has leaves, lists and
+/// predicates.
+fn has_parts(alloc: Global, pair: &Pair, instance: &Instance) -> Result<bool, AllocError>
+    ensures { IfOk result (λ yes. IsTrue yes ↔ spec.HasParts (pair_of pair.now) instance.now) }
+{
+    let mut leaves = Vec::new(alloc);
+    pair.source.push_leaves(&mut leaves)?;
+    let mut lists = Vec::new(alloc);
+    pair.source.push_lists(&mut lists)?;
+    let mut preds = Vec::new(alloc);
+    pair.source.push_preds(&mut preds)?;
+    Ok(
+        instance.widths.len() == leaves.len()
+            && instance.tables.len() == leaves.len()
+            && instance.lists.len() == lists.len()
+            && instance.trues.len() == preds.len(),
+    )
+}
+
+/// Whether it is an instance of the pair.
+pub fn is_instance(alloc: Global, pair: &Pair, instance: &Instance) -> Result<bool, AllocError>
+    ensures exact { IfOk result (λ yes. IsTrue yes ↔ spec.IsInstance (pair_of pair.now) instance.now) }
+{
+    Ok(
+        has_parts(alloc, pair, instance)?
+            && tables_are_wide(instance)
+            && are_filled(instance.lists.as_slice()),
+    )
+}
+
+/// A law: on an instance of a pair each row of a side has the columns of the side.
+pub fn rows_have_columns()
+    ensures { (p : PairTree) (I : Instance) → spec.IsInstance p I → (s : SideTree) (A : List ℕ) → rows.HaveColumns s A I }
+{}

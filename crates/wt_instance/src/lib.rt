@@ -9,7 +9,7 @@ mod operator;
 mod picked;
 
 pub use evaluate::bag;
-pub use instance::{ColsList, Instance, RowsList, Widths};
+pub use instance::{ColsList, Instance, RowsList, Widths, is_instance, rows_have_columns};
 pub use meeting::meets;
 pub use std::alloc::AllocError as WantOfMemory;
 

@@ -1,18 +1,22 @@
 -- Each row of a side has the side's columns.
-use Rattle.std.proofs.Common.{◌≡◌, ℕ, suc, ◌<◌, Bool, List, [], ◌∷◌, ◌++◌, map, filter, length, refl, sym, ap, ◌∙◌, subst, inl, inr, arith}
+use Rattle.std.proofs.Common.{◌≡◌, ℕ, suc, ◌<◌, Bool, true, List, [], ◌∷◌, ◌++◌, map, filter, length, refl, sym, ap, ◌∙◌, subst, inl, inr, arith}
+use Rattle.std.specs.Prelude.{◌==◌, ◌&&◌}
 use Rattle.std.specs.List.{list_any}
+use Rattle.std.proofs.lemmas.Grind.{common_steps}
 use Rattle.std.proofs.lemmas.Bool.{cases_lt}
 use Rattle.std.proofs.lemmas.List.{get_or_past}
 use Rattle.wt_bag.specs.Bags.{Each}
 use Rattle.wt_bag.proofs.EachLaws.{each_map, each_flat_map, each_implies, each_for, each_filter, each_distinct}
+use Rattle.wt_bag.proofs.BagLaws.{distinct-map}
 use Rattle.wt_value.specs.declared.value.Value.{Value}
-use Rattle.wt_value.specs.Values.{Tuple, row_matches}
+use Rattle.wt_value.specs.Values.{Tuple, value_same, row_same, row_matches, distinct_rows}
 use Rattle.wt_symbol.specs.Sides.{SideTree, input, proj, filtered, inner_join, left_join, in_sub, dedup, PairTree}
 use Rattle.wt_symbol.specs.Heads.{anchor}
 use Rattle.wt_instance.specs.declared.instance.Instance.{Instance}
 use Rattle.wt_instance.specs.declared.named.Column.{Column}
+use Rattle.wt_instance.specs.declared.named.Cell.{Cell}
 use Rattle.wt_instance.specs.Instances.{width, table, numbers, is_true, IsWide, IsInstance}
-use Rattle.wt_instance.specs.Rows.{Named, cell, column, names, values, value_at, values_at, cells_at, named, nulls, leaf_columns, columns_of, joined, or_nulls, named_same, named_rows, HaveColumns}
+use Rattle.wt_instance.specs.Rows.{Named, cell, column, names, values, value_at, values_at, cells_at, named, nulls, leaf_columns, columns_of, joined, or_nulls, named_same, named_rows, rows_of, HaveColumns}
 
 -- a leaf's rows have its width, also where there is no such leaf
 pub all_wide : (p : PairTree) (I : Instance) → IsInstance p I → (r : ℕ) → IsWide I r
@@ -73,3 +77,29 @@ module _ (A : List ℕ) (I : Instance) where
   rows_named wide (in_sub a s t) =
       each_filter (λ row. names row ≡ columns_of s A I) (λ left. list_any (λ right. row_matches (values_at A I a left) (values right)) (named_rows t A I)) (named_rows s A I) (rows_named wide s)
   rows_named wide (dedup s) = each_distinct (λ row. names row ≡ columns_of s A I) named_same (named_rows s A I) (rows_named wide s)
+
+heads_same : (v w : Named) (c d : Cell) → names (c ∷ v) ≡ names (d ∷ w) → c.column ≡ d.column
+heads_same v w c d e = cc
+
+tails_same : (v w : Named) (c d : Cell) → names (c ∷ v) ≡ names (d ∷ w) → names v ≡ names w
+tails_same v w c d e = cc
+
+number_itself : (n m : ℕ) → n ≡ m → (n == m) ≡ true
+number_itself n m e = grind (arith, common_steps)
+
+columns_pass : (c d : Column) → c ≡ d → ((c.leaf == d.leaf) && (c.number == d.number)) ≡ true
+columns_pass c d e = rw (number_itself c.leaf d.leaf (ap (λ (x : Column). x.leaf) e), number_itself c.number d.number (ap (λ (x : Column). x.number) e)) refl
+
+-- rows with the same names are the same where their values are
+values_tell : (v w : Named) → names v ≡ names w → row_same (values v) (values w) ≡ named_same v w
+values_tell [] [] e = refl
+values_tell [] (d ∷ w) e = cc
+values_tell (c ∷ v) [] e = cc
+values_tell (c ∷ v) (d ∷ w) e =
+    ap (λ b. value_same c.value d.value && b) (values_tell v w (tails_same v w c d e))
+    ∙ ap (λ b. (b && value_same c.value d.value) && named_same v w) (sym (columns_pass c.column d.column (heads_same v w c d e)))
+
+-- the distinct rows of a side are those of its values
+pub distinct_values : (A : List ℕ) (I : Instance) → ((r : ℕ) → IsWide I r) → (s : SideTree) → rows_of (dedup s) A I ≡ distinct_rows (rows_of s A I)
+distinct_values A I wide s =
+    sym (distinct-map named_same row_same values (λ row. names row ≡ columns_of s A I) (λ v w e f. values_tell v w (e ∙ sym f)) (named_rows s A I) (rows_named A I wide s))

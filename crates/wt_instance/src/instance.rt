@@ -1,8 +1,8 @@
 //! Instances of a pair.
 ghost use Rattle.std.specs.Prelude.{◌≡◌, ◌≢◌, ◌↔◌, ◌<◌, ℕ, List, [], length, slice_index_or, IsTrue, IfOk};
 ghost use Rattle.wt_bag.specs.Bags.{among, Each};
-ghost use Rattle.wt_value.specs.Values.{row_same};
-ghost use Rattle.wt_symbol.specs.Sides.{SideTree, PairTree, pair_of};
+ghost use Rattle.wt_value.specs.Values.{row_same, distinct_rows};
+ghost use Rattle.wt_symbol.specs.Sides.{SideTree, dedup, PairTree, pair_of};
 ghost use Rattle.wt_symbol.specs.Heads as heads;
 ghost use Rattle.wt_instance.specs.Instances as spec;
 ghost use Rattle.wt_instance.specs.Rows as rows;
@@ -186,4 +186,9 @@ pub fn is_instance(alloc: Global, pair: &Pair, instance: &Instance) -> Result<bo
 /// A law: on an instance of a pair each row of a side has the columns of the side.
 pub fn rows_have_columns()
     ensures { (p : PairTree) (I : Instance) → spec.IsInstance p I → (s : SideTree) (A : List ℕ) → rows.HaveColumns s A I }
+{}
+
+/// A law: on an instance of a pair the rows of a Dedup are the distinct rows of its operand.
+pub fn dedup_rows_are_distinct_rows()
+    ensures { (p : PairTree) (I : Instance) → spec.IsInstance p I → (s : SideTree) (A : List ℕ) → rows.rows_of (dedup s) A I ≡ distinct_rows (rows.rows_of s A I) }
 {}

@@ -9,7 +9,9 @@ mod operator;
 mod picked;
 
 pub use evaluate::bag;
-pub use instance::{ColsList, Instance, RowsList, Widths, is_instance, rows_have_columns};
+pub use instance::{
+    ColsList, Instance, RowsList, Widths, dedup_rows_are_distinct_rows, is_instance, rows_have_columns,
+};
 pub use meeting::meets;
 pub use std::alloc::AllocError as WantOfMemory;
 

@@ -37,14 +37,14 @@ cell_same-Decides : (c d : Cell) → Decides (cell_same c d) (c ≡ d)
 unfolding cell_same
 cell_same-Decides c d = (
   λ h.
-  let parts = and_both _ (value_same c.value d.value) h in
-  let names = and_both _ (c.column.number == d.column.number) parts.0 in
-  same_parts c.column.leaf c.column.number d.column.leaf d.column.number c.value d.value (same_number _ _ names.0) (same_number _ _ names.1)
-  ((value_same-Decides c.value d.value).0 parts.1),
+      let parts = and_both _ (value_same c.value d.value) h in
+      let names = and_both _ (c.column.number == d.column.number) parts.0 in
+      same_parts c.column.leaf c.column.number d.column.leaf d.column.number c.value d.value (same_number _ _ names.0) (same_number _ _ names.1)
+      ((value_same-Decides c.value d.value).0 parts.1),
   λ e.
-  both_and _ _
-  (both_and _ _ (number_same _ _ (ap (λ (x : Cell). x.column.leaf) e)) (number_same _ _ (ap (λ (x : Cell). x.column.number) e)))
-  ((value_same-Decides c.value d.value).1 (ap (λ (x : Cell). x.value) e)),
+      both_and _ _
+      (both_and _ _ (number_same _ _ (ap (λ (x : Cell). x.column.leaf) e)) (number_same _ _ (ap (λ (x : Cell). x.column.number) e)))
+      ((value_same-Decides c.value d.value).1 (ap (λ (x : Cell). x.value) e)),
 )
 
 pub named_same-Decides : (v w : Named) → Decides (named_same v w) (v ≡ w)

@@ -1,5 +1,5 @@
 -- The rows and columns of a side, from those of its operands.
-use Rattle.std.proofs.Common.{◌≡◌, ℕ, suc, ◌+◌, ◌-◌, ◌<◌, Bool, true, false, cond, List, [], ◌∷◌, ◌++◌, map, filter, append_assoc, Result, Ok, Err, IfOk, refl, sym, ap, ◌∙◌, arith, ◌||◌}
+use Rattle.std.proofs.Common.{◌≡◌, ℕ, suc, ◌+◌, ◌-◌, ◌<◌, cond, List, [], ◌∷◌, ◌++◌, map, filter, append_assoc, Result, Ok, Err, IfOk, refl, sym, ap, ◌∙◌, arith, ◌||◌}
 use Rattle.std.specs.Prelude.{flat_map}
 use Rattle.std.specs.List.{list_any}
 use Rattle.wt_value.specs.Values.{Tuple, row_matches}

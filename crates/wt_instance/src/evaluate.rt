@@ -99,7 +99,15 @@ fn named_rows(
             let lefts = named_rows(alloc, s, anchors, instance)?;
             let rights = named_rows(alloc, t, anchors, instance)?;
             let columns = columns_of(alloc, t, anchors, instance)?;
-            left_join(alloc, anchors, instance, (*a, *b), &lefts, &rights, &columns)
+            left_join(
+                alloc,
+                anchors,
+                instance,
+                (*a, *b),
+                &lefts,
+                &rights,
+                &columns,
+            )
         }
         Side::InSub(a, s, t) => {
             let lefts = named_rows(alloc, s, anchors, instance)?;

@@ -7,10 +7,13 @@ mod meeting;
 mod named;
 mod operator;
 mod picked;
+#[cfg(test)]
+mod tests;
 
 pub use evaluate::bag;
 pub use instance::{
-    ColsList, Instance, RowsList, Widths, dedup_rows_are_distinct_rows, is_instance, rows_have_columns,
+    ColsList, Instance, RowsList, Widths, dedup_rows_are_distinct_rows, is_instance,
+    rows_have_columns,
 };
 pub use meeting::meets;
 pub use std::alloc::AllocError as WantOfMemory;

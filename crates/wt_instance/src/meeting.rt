@@ -63,13 +63,7 @@ fn atom_holds(anchors: &Anchors, instance: &Instance, atom: Atom) -> bool
 }
 
 /// Whether the k-th atom holds, if it is one of the set.
-fn atom_passes(
-    anchors: &Anchors,
-    instance: &Instance,
-    set: AtomSet,
-    k: u32,
-    atom: Atom,
-) -> bool
+fn atom_passes(anchors: &Anchors, instance: &Instance, set: AtomSet, k: u32, atom: Atom) -> bool
     requires { k < 64 }
     ensures { IsTrue result ↔ (HasAtom set k → spec.Holds anchors.now instance.now atom) }
 {
@@ -156,7 +150,8 @@ fn lists_come(side: &Side, anchors: &Anchors, instance: &Instance) -> bool
             && lists_come(s, anchors, instance),
         Side::InnerJoin(a, b, s, t) | Side::LeftJoin(a, b, s, t) => list_comes(
             s, anchors, instance, *a,
-        ) && list_comes(t, anchors, instance, *b) && lists_come(s, anchors, instance)
+        ) && list_comes(t, anchors, instance, *b)
+            && lists_come(s, anchors, instance)
             && lists_come(t, anchors, instance),
         Side::InSub(a, s, t) => list_comes(s, anchors, instance, *a)
             && lists_come(s, anchors, instance)

@@ -8,21 +8,24 @@ ghost use Rattle.wt_instance.specs.Instances as instances;
 ghost use Rattle.wt_instance.specs.Rows as spec;
 
 use crate::instance::{Instance, anchor};
-use crate::named::{Columns, NamedRow, NamedRows, cells_at, named, together, values_at, with_nulls};
+use crate::named::{
+    Columns, NamedRow, NamedRows, cells_at, named, together, values_at, with_nulls,
+};
 use std::alloc::{AllocError, Global};
 use wt_symbol::Anchors;
 use wt_value::{Row, Rows, matches};
 
 /// The values of a list symbol in a row.
-fn list_values(alloc: Global, anchors: &Anchors, instance: &Instance, list: u8, row: &NamedRow) -> Result<Row, AllocError>
+fn list_values(
+    alloc: Global,
+    anchors: &Anchors,
+    instance: &Instance,
+    list: u8,
+    row: &NamedRow,
+) -> Result<Row, AllocError>
     ensures { IfOk result (λ picked. picked ≡ spec.values_at anchors.now instance.now list row.now) }
 {
-    values_at(
-        alloc,
-        row,
-        anchor(anchors, list),
-        instance.numbers(list),
-    )
+    values_at(alloc, row, anchor(anchors, list), instance.numbers(list))
 }
 
 /// The values of a list symbol in a row, under their names.
@@ -35,16 +38,15 @@ fn list_cells(
 ) -> Result<NamedRow, AllocError>
     ensures { IfOk result (λ picked. picked ≡ spec.cells_at anchors.now instance.now list row.now) }
 {
-    cells_at(
-        alloc,
-        row,
-        anchor(anchors, list),
-        instance.numbers(list),
-    )
+    cells_at(alloc, row, anchor(anchors, list), instance.numbers(list))
 }
 
 /// The rows of a leaf.
-pub(crate) fn leaf_rows(alloc: Global, instance: &Instance, leaf: u8) -> Result<NamedRows, AllocError>
+pub(crate) fn leaf_rows(
+    alloc: Global,
+    instance: &Instance,
+    leaf: u8,
+) -> Result<NamedRows, AllocError>
     ensures { IfOk result (λ rows. rows ≡ map (spec.named leaf 0) (instances.table instance.now leaf)) }
 {
     let mut rows = NamedRows::new(alloc);
@@ -57,7 +59,8 @@ pub(crate) fn leaf_rows(alloc: Global, instance: &Instance, leaf: u8) -> Result<
 /// The columns of a list, row by row.
 pub(crate) fn project(
     alloc: Global,
-    anchors: &Anchors, instance: &Instance,
+    anchors: &Anchors,
+    instance: &Instance,
     list: u8,
     rows: &NamedRows,
 ) -> Result<NamedRows, AllocError>
@@ -73,7 +76,8 @@ pub(crate) fn project(
 /// The rows on whose values the predicate is True.
 pub(crate) fn keep_true(
     alloc: Global,
-    anchors: &Anchors, instance: &Instance,
+    anchors: &Anchors,
+    instance: &Instance,
     pred: u8,
     list: u8,
     rows: NamedRows,
@@ -99,7 +103,8 @@ fn is_matched(wanted: &Row, rows: &Rows) -> bool
 /// The rows whose values some right row matches.
 pub(crate) fn keep_matched(
     alloc: Global,
-    anchors: &Anchors, instance: &Instance,
+    anchors: &Anchors,
+    instance: &Instance,
     list: u8,
     rows: NamedRows,
     rights: &Rows,
@@ -108,10 +113,7 @@ pub(crate) fn keep_matched(
 {
     let mut kept = NamedRows::new(alloc);
     for row in rows.into_vec() {
-        if is_matched(
-            &list_values(alloc, anchors, instance, list, &row)?,
-            rights,
-        ) {
+        if is_matched(&list_values(alloc, anchors, instance, list, &row)?, rights) {
             kept.push(row)?;
         }
     }
@@ -121,7 +123,8 @@ pub(crate) fn keep_matched(
 /// A left row with each right row that it matches.
 fn joined(
     alloc: Global,
-    anchors: &Anchors, instance: &Instance,
+    anchors: &Anchors,
+    instance: &Instance,
     lists: (u8, u8),
     left: &NamedRow,
     rights: &NamedRows,
@@ -131,7 +134,10 @@ fn joined(
     let wanted = list_values(alloc, anchors, instance, lists.0, left)?;
     let mut rows = NamedRows::new(alloc);
     for right in rights.as_slice() {
-        if matches(&wanted, &list_values(alloc, anchors, instance, lists.1, right)?) {
+        if matches(
+            &wanted,
+            &list_values(alloc, anchors, instance, lists.1, right)?,
+        ) {
             rows.push(together(alloc, left, right)?)?;
         }
     }
@@ -166,7 +172,8 @@ fn push_rows(rows: &mut NamedRows, more: NamedRows) -> Result<(), AllocError>
 /// Each left row with each right row that it matches.
 pub(crate) fn inner_join(
     alloc: Global,
-    anchors: &Anchors, instance: &Instance,
+    anchors: &Anchors,
+    instance: &Instance,
     lists: (u8, u8),
     lefts: &NamedRows,
     rights: &NamedRows,
@@ -175,7 +182,10 @@ pub(crate) fn inner_join(
 {
     let mut rows = NamedRows::new(alloc);
     for left in lefts.as_slice() {
-        push_rows(&mut rows, joined(alloc, anchors, instance, lists, left, rights)?)?;
+        push_rows(
+            &mut rows,
+            joined(alloc, anchors, instance, lists, left, rights)?,
+        )?;
     }
     Ok(rows)
 }
@@ -183,7 +193,8 @@ pub(crate) fn inner_join(
 /// The same, and a left row that matches none with NULLs.
 pub(crate) fn left_join(
     alloc: Global,
-    anchors: &Anchors, instance: &Instance,
+    anchors: &Anchors,
+    instance: &Instance,
     lists: (u8, u8),
     lefts: &NamedRows,
     rights: &NamedRows,

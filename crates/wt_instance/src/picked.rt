@@ -100,7 +100,9 @@ pub(crate) fn is_not_null(numbers: &[u32], mut rows: &[Row]) -> bool
 fn is_matched(row: &Row, numbers: &[u32], others: &[Row], other_numbers: &[u32]) -> bool
     ensures { result ≡ list_any (λ other. row_matches (spec.pick numbers.now row.now) (spec.pick other_numbers.now other)) others.now }
 {
-    others.iter().any(|other| matches_at(row, numbers, other, other_numbers))
+    others
+        .iter()
+        .any(|other| matches_at(row, numbers, other, other_numbers))
 }
 
 /// Whether each row without NULL is matched by one of the others.
@@ -113,7 +115,9 @@ pub(crate) fn refers(
     ensures { IsTrue result ↔ spec.Refers numbers.now other_numbers.now rows.entry.now others.now }
 {
     'rows: while let [row, more @ ..] = rows {
-        if has_no_null(row.as_slice(), numbers) && !is_matched(row, numbers, others, other_numbers) {
+        if has_no_null(row.as_slice(), numbers)
+            && !is_matched(row, numbers, others, other_numbers)
+        {
             return false;
         }
         rows = more;

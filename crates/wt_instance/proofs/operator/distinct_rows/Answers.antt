@@ -1,4 +1,4 @@
-use Rattle.std.proofs.Common.{rules, ◌≡◌, ◌∷◌, refl}
+use Rattle.std.proofs.Common.{rules, ◌≡◌, ◌∷◌}
 use Rattle.std.specs.Vec.Iter.{into_iter_items}
 use Rattle.wt_instance.proofs.NamedRows.{distinct_begins, distinct_goes_on, passed_on}
 use Rattle.wt_instance.proofs.operator.distinct_rows.Goals as goal

@@ -1,4 +1,4 @@
-use Rattle.std.proofs.Common.{◌≡◌, ◌++◌, take}
+use Rattle.std.proofs.Common.{◌≡◌, take}
 use Rattle.wt_instance.specs.Rows.{joined}
 use Rattle.wt_instance.proofs.operator.joined.Given as goal
 

@@ -1,0 +1,4 @@
+mod NamedRows
+mod Sides
+mod Columns
+mod Meetings

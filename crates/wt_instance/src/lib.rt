@@ -1,0 +1,26 @@
+//! Instances of a pair, the rows of a side on one, and whether it meets a set of constraints.
+#![tactic(auto)]
+
+mod evaluate;
+mod instance;
+mod meeting;
+mod named;
+mod operator;
+mod picked;
+#[cfg(test)]
+mod tests;
+
+pub use evaluate::bag;
+pub use instance::{
+    ColsList, Instance, RowsList, Widths, dedup_rows_are_distinct_rows, is_instance,
+    rows_have_columns,
+};
+pub use meeting::meets;
+pub use std::alloc::AllocError as WantOfMemory;
+
+fn may_be_shared<T: Send + Sync>() {}
+
+/// A statement to the compiler: threads may share these types, and hand them over.
+pub fn threads_share_instances() {
+    may_be_shared::<Instance>();
+}

@@ -237,7 +237,8 @@ fn keep(kept: &mut NamedRows, row: NamedRow) -> Result<(), AllocError>
     Ok(())
 }
 
-/// The first of each group of equal rows, in order.
+/// The first of each group of equal rows, in order. Each row is looked for among those kept: instances are small, and rows
+/// have no order or hash.
 pub(crate) fn distinct_rows(alloc: Global, rows: NamedRows) -> Result<NamedRows, AllocError>
     ensures { IfOk result (λ kept. kept ≡ distinct spec.named_same rows) }
 {

@@ -1,11 +1,10 @@
 -- A text whose tokens are a sentence is read, or refused for its names.
-use Rattle.std.proofs.Common.{◌≡◌, ℕ, true, false, not, List, length, ap, sym, ◌∙◌, subst, IfErr, Result, Ok, Err}
+use Rattle.std.proofs.Common.{◌≡◌, ℕ, true, List, length, ap, sym, ◌∙◌, subst, IfErr, Result, Ok, Err}
 use Rattle.wt_ddl.specs.declared.fault.DdlError.{DdlError}
-use Rattle.wt_ddl.specs.declared.fault.DdlError.TheVariants as errors
 use Rattle.wt_ddl.specs.Grammar.{IsText}
 use Rattle.wt_ddl.specs.Reading.{Read, statements}
 use Rattle.wt_ddl.specs.Schemas.{schema_of, of_tokens, unless_odd, linked_up}
-use Rattle.wt_ddl_sentence.specs.Faults.{is_of_grammar, is_of_names}
+use Rattle.wt_ddl_sentence.specs.Faults.{is_of_names}
 use Rattle.wt_ddl_sentence.proofs.Readings.{IsRead}
 use Rattle.wt_ddl_sentence.proofs.Settling.{OfNames, linked_tables_names}
 use Rattle.wt_ddl_sentence.proofs.Statements.{sentence_read}
@@ -27,12 +26,3 @@ no_error (Err e) h = h
 
 pub read_or_names : (bytes : List ℕ) → IsText bytes → IfErr (schema_of bytes) (λ e. is_of_names e ≡ true)
 read_or_names bytes s = no_error (schema_of bytes) (text_names bytes s)
-
--- no fault is both of the grammar and of names
-one_of_two : (e : DdlError) → is_of_grammar e ≡ true → is_of_names e ≡ true → ⊥
-one_of_two (errors.Fault f at) h g = let bad : not (is_of_grammar (errors.Fault f at)) ≡ false = ap not h in absurd (cc)
-one_of_two (errors.Lex f at) h g = absurd (cc)
-one_of_two errors.Memory h g = absurd (cc)
-
-pub refused_no_sentence : (bytes : List ℕ) (e : DdlError) → schema_of bytes ≡ Err e → is_of_grammar e ≡ true → IsText bytes → ⊥
-refused_no_sentence bytes e h g s = one_of_two e g (subst OfNames h (text_names bytes s))

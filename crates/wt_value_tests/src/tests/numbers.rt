@@ -1,7 +1,8 @@
 //! The columns of predicates, and predicates with other numbers.
-use crate::Cmp;
 use crate::tests::{Side, Step, by_columns_behind, pred};
+use std::alloc::{AllocError, Global};
 use std::test::Fail;
+use wt_pred::Cmp;
 
 // A predicate, its columns, columns that stand before these in a list, and the predicate by that list.
 struct Numbered {
@@ -84,27 +85,38 @@ static NUMBERED: [Numbered; 6] = [
     },
 ];
 
+fn has_columns(alloc: Global, row: &Numbered) -> Result<bool, AllocError> {
+    Ok(pred(alloc, row.steps)?.columns(alloc)?.as_slice() == row.columns)
+}
+
+fn is_renumbered(alloc: Global, row: &Numbered) -> Result<bool, AllocError> {
+    let numbered = by_columns_behind(alloc, &pred(alloc, row.steps)?, row.front)?;
+    Ok(numbered.same(&pred(alloc, row.renumbered)?))
+}
+
+fn are_same(alloc: Global, row: &Numbered, other: &Numbered) -> Result<bool, AllocError> {
+    Ok(
+        pred(alloc, row.steps)?
+            .copy(alloc)?
+            .same(&pred(alloc, other.steps)?),
+    )
+}
+
 #[test]
 fn columns_are_renumbered(rt: HostRuntime) -> Result<(), Fail> {
-    let alloc = rt.alloc();
     for (i, row) in NUMBERED.iter().enumerate() {
-        let p = pred(alloc, row.steps)?;
-        assert!(rt; p.columns(alloc)?.as_slice() == row.columns, "{i}");
-        let numbered = by_columns_behind(alloc, &p, row.front)?;
-        assert!(rt; numbered.same(&pred(alloc, row.renumbered)?), "{i}");
+        assert!(rt; has_columns(rt.alloc(), row)?, "{i}");
+        assert!(rt; is_renumbered(rt.alloc(), row)?, "{i}");
     }
     Ok(())
 }
 
 #[test]
 fn a_copy_is_the_same_predicate_alone(rt: HostRuntime) -> Result<(), Fail> {
-    let alloc = rt.alloc();
     for (i, row) in NUMBERED.iter().enumerate() {
-        let p = pred(alloc, row.steps)?;
-        assert!(rt; p.copy(alloc)?.same(&p), "{i}");
         for (j, other) in NUMBERED.iter().enumerate() {
             let alike = i == j || i + j == 1;
-            assert_eq!(rt; p.same(&pred(alloc, other.steps)?), alike, "{i} {j}");
+            assert_eq!(rt; are_same(rt.alloc(), row, other)?, alike, "{i} {j}");
         }
     }
     Ok(())

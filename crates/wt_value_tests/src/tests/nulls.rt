@@ -1,8 +1,9 @@
 //! Predicates that reject NULL at column 0.
 
-use crate::Cmp;
 use crate::tests::{Side, Step, pred};
+use std::alloc::{AllocError, Global};
 use std::test::Fail;
+use wt_pred::Cmp;
 
 // A predicate, and whether its form tells that NULL at column 0 keeps it from being True.
 type Case = (&'static [Step], bool);
@@ -99,11 +100,15 @@ static CASES: [Case; 34] = [
     (&[Step::IsNull(0), Step::Not, Step::Not], false),
 ];
 
+fn rejects(alloc: Global, steps: &[Step]) -> Result<bool, AllocError> {
+    Ok(pred(alloc, steps)?.rejects_null(0))
+}
+
 #[test]
 fn forms_that_reject_null(rt: HostRuntime) -> Result<(), Fail> {
     let alloc = rt.alloc();
     for (i, (steps, wanted)) in CASES.iter().enumerate() {
-        assert_eq!(rt; pred(alloc, steps)?.rejects_null(0), *wanted, "{i}");
+        assert_eq!(rt; rejects(alloc, steps)?, *wanted, "{i}");
     }
     Ok(())
 }

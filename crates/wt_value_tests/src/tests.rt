@@ -3,11 +3,12 @@
 mod meaning;
 mod nulls;
 mod numbers;
+mod rows;
 mod sizes;
 
-use crate::{Cmp, Operand, Pred, Preds};
 use std::alloc::{AllocError, Global};
-use wt_value::{Cols, Row, Text, Value, Values};
+use wt_pred::{Cmp, Operand, Pred, Preds};
+use wt_value::{Cols, Row, Text, Truth, Value, Values};
 
 // A value or a column, as tables have it.
 #[derive(Clone, Copy)]
@@ -97,6 +98,11 @@ fn pred(alloc: Global, steps: &[Step]) -> Result<Pred, AllocError> {
         made.push(next)?;
     }
     Ok(last(&mut made))
+}
+
+// The truth of a predicate at a row.
+fn truth(alloc: Global, steps: &[Step], sides: &[Side]) -> Result<Truth, AllocError> {
+    Ok(pred(alloc, steps)?.eval(&row(alloc, sides)?))
 }
 
 // The predicate by its own columns, with others before them.

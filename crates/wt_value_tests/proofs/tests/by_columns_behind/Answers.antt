@@ -2,7 +2,7 @@ use Rattle.std.proofs.Common.{◌≡◌, ◌∙◌, ◌++◌, arith}
 use Rattle.wt_pred.specs.Tree.{pred_tree}
 use Rattle.wt_pred.specs.Columns.{columns}
 use Rattle.wt_pred.proofs.Using.{columns_there}
-use Rattle.wt_pred.proofs.tests.by_columns_behind.Goals as goal
+use Rattle.wt_value_tests.proofs.tests.by_columns_behind.Goals as goal
 
 pub renumber-requires : goal.renumber-requires
 renumber-requires c =

@@ -1,8 +1,8 @@
 //! The truth of predicates at rows.
 
-use crate::Cmp;
-use crate::tests::{Side, Step, pred, row};
+use crate::tests::{Side, Step, truth};
 use std::test::Fail;
+use wt_pred::Cmp;
 use wt_value::Truth;
 
 // A predicate, a row, and the truth.
@@ -49,15 +49,15 @@ fn connectives_are_least_and_greatest(rt: HostRuntime) -> Result<(), Fail> {
         Step::Not,
     ];
     for (a, b, both, either) in &CONNECTIVES {
-        let values = row(alloc, &[side(*a), side(*b)])?;
-        assert_eq!(rt; pred(alloc, &is_one[..3])?.eval(&values), *both);
-        assert_eq!(rt; pred(alloc, &is_one[3..6])?.eval(&values), *either);
+        let values = [side(*a), side(*b)];
+        assert_eq!(rt; truth(alloc, &is_one[..3], &values)?, *both);
+        assert_eq!(rt; truth(alloc, &is_one[3..6], &values)?, *either);
         let negated = match a {
             Truth::True => Truth::False,
             Truth::Unknown => Truth::Unknown,
             Truth::False => Truth::True,
         };
-        assert_eq!(rt; pred(alloc, &is_one[6..])?.eval(&values), negated);
+        assert_eq!(rt; truth(alloc, &is_one[6..], &values)?, negated);
     }
     Ok(())
 }
@@ -125,16 +125,12 @@ static CMPS: [Cmp; 6] = [Cmp::Eq, Cmp::Ne, Cmp::Lt, Cmp::Le, Cmp::Gt, Cmp::Ge];
 fn values_compare_by_kind(rt: HostRuntime) -> Result<(), Fail> {
     let alloc = rt.alloc();
     for (i, (a, b, wanted)) in COMPARISONS.iter().enumerate() {
-        let values = row(alloc, &[*a, *b])?;
-        for (cmp, truth) in CMPS.iter().zip(wanted.iter()) {
+        let values = [*a, *b];
+        for (cmp, wanted) in CMPS.iter().zip(wanted.iter()) {
             let columns = [Step::Compare(*cmp, Side::Column(0), Side::Column(1))];
-            assert_eq!(rt; pred(alloc, &columns)?.eval(&values), *truth, "{i} {cmp:?}");
+            assert_eq!(rt; truth(alloc, &columns, &values)?, *wanted, "{i} {cmp:?}");
             let constants = [Step::Compare(*cmp, *a, *b)];
-            assert_eq!(rt;
-                pred(alloc, &constants)?.eval(&values),
-                *truth,
-                "{i} {cmp:?}"
-            );
+            assert_eq!(rt; truth(alloc, &constants, &values)?, *wanted, "{i} {cmp:?}");
         }
     }
     Ok(())
@@ -276,12 +272,8 @@ static CASES: [Case; 27] = [
 #[test]
 fn predicates_have_their_truth(rt: HostRuntime) -> Result<(), Fail> {
     let alloc = rt.alloc();
-    for (i, (steps, sides, truth)) in CASES.iter().enumerate() {
-        assert_eq!(rt;
-            pred(alloc, steps)?.eval(&row(alloc, sides)?),
-            *truth,
-            "{i}"
-        );
+    for (i, (steps, sides, wanted)) in CASES.iter().enumerate() {
+        assert_eq!(rt; truth(alloc, steps, sides)?, *wanted, "{i}");
     }
     Ok(())
 }

@@ -1,13 +1,13 @@
 //! The lines of the rules of a pair, as a rule file has them.
 #![tactic(auto)]
 
-ghost use Rattle.std.specs.Prelude.{◌≡◌, ◌++◌, [], ℕ, List, All, map, IfOk, OnOk, length};
+ghost use Rattle.std.specs.Prelude.{◌≡◌, ◌++◌, [], ℕ, List, All, map, take, IfOk, OnOk, length};
 ghost use Rattle.std.specs.List.{flat_map};
 ghost use Rattle.wt_symbol.specs.Sides.{tree_of, pair_of, PairTree};
 ghost use Rattle.wt_symbol.specs.Lawful.{IsLawful};
 ghost use Rattle.wt_prover.specs.SideTowers.{IsTower};
-ghost use Rattle.wt_rule.specs.Texts.{line_of};
-ghost use Rattle.wt_discover.specs.Files.{AreLines, AreCounted, HasTowers, IsRuleFile};
+ghost use Rattle.wt_rule.specs.Texts.{head_line, line_of};
+ghost use Rattle.wt_discover.specs.Files.{AreLines, AreAllLines, AreCounted, HasTowers, IsRuleFile};
 
 use std::alloc::{AllocError, Global};
 use wt_constraint::AtomSet;
@@ -101,4 +101,11 @@ pub fn lines_of_pairs(
 pub fn one_rule_file()
     ensures { (steps depth : ℕ) (pairs : List PairTree) (a b : List ℕ) →
         IsRuleFile steps depth pairs a → IsRuleFile steps depth pairs b → a ≡ b }
+{}
+
+/// A law: the first line and the lines of the rules of the first pairs begin the rule file of all pairs.
+pub fn first_pairs_begin_the_rule_file()
+    ensures { (steps depth n : ℕ) (pairs : List PairTree) (lines file : List ℕ) (count : ℕ) →
+        AreAllLines steps depth (take n pairs) lines count → IsRuleFile steps depth pairs file →
+        (rest : List ℕ) × (file ≡ (head_line steps ++ lines) ++ rest) }
 {}

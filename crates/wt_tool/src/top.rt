@@ -1,5 +1,5 @@
 //! The top call.
-ghost use Rattle.std.specs.Prelude.{◌≡◌, ◌≢◌, ◌≤◌, ◌⊎◌, IsErr, map, string_bytes};
+ghost use Rattle.std.specs.Prelude.{◌≡◌, ◌≢◌, ◌≤◌, ◌⊎◌, IsErr, Some, map, string_bytes};
 ghost use Rattle.std.specs.Io.KnownBytes.{append_known};
 ghost use Rattle.wt_io.specs.Causes.{Rose};
 ghost use Rattle.wt_tool.specs.Answers.{Answers, RunOutcome, usage};
@@ -62,7 +62,7 @@ pub fn wetune<R: Threads + Wait + Sync, S: Store, K: Sink, G: Gate + Sync>(
 
     // Every status but 3, 5 and 6 is the outcome's, and the outcome's text was written.
     ensures bytes { result ≢ 3 → result ≢ 5 → result ≢ 6 → RunOutcome (S.told store.old) (map string_bytes words.now)
-        (λ o. (result ≡ o.status) × (K.written sink.new ≡ append_known (K.written sink.old) o.text)) }
+        (λ o. (o.status ≡ Some result) × (K.written sink.new ≡ append_known (K.written sink.old) o.text)) }
 
     // 1 comes exactly where the words are no command.
     ensures usage_only { result ≡ 1 → IsErr (command_of (map string_bytes words.now)) }

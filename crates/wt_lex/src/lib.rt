@@ -7,7 +7,9 @@ mod names;
 mod tests;
 mod token;
 mod tokens;
+mod words;
 
-pub use names::{is_reserved, is_word, name_of, text_of};
+pub use names::{is_word, name_of, text_of};
 pub use token::{LexError, LexFault, Sym, Token, TokenKind};
 pub use tokens::{Tokens, lex};
+pub use words::{Word, is_bare, is_reserved, keyword};

@@ -1,8 +1,8 @@
 -- What words, quoted names and texts stand for.
-use Rattle.std.specs.Prelude.{ℕ, ◌<◌, ◌+◌, ◌-◌, Bool, true, false, if◌then◌else◌, ◌==◌, List, [], ◌∷◌, map, length, take, drop, Option}
+use Rattle.std.specs.Prelude.{ℕ, ◌+◌, ◌-◌, Bool, true, false, if◌then◌else◌, ◌==◌, List, [], ◌∷◌, map, take, drop, Option}
 use Rattle.std.specs.Char.{to_ascii_lowercase}
 use Rattle.std.specs.List.{find}
-use Rattle.std.specs.Str.{bytes_eq, IsUtf8}
+use Rattle.std.specs.Str.{bytes_eq}
 use Rattle.wt_lex.specs.declared.token.TokenKind.{TokenKind}
 use Rattle.wt_lex.specs.declared.token.TokenKind.TheVariants as kinds
 use Rattle.wt_lex.specs.declared.token.Token.{Token}
@@ -63,13 +63,3 @@ is_word bytes t word = word_by t.kind (spelled bytes t) word
 -- the reserved word that a token is
 abbrev pub keyword : List ℕ → Token → Option Word
 keyword bytes t = find (λ w. is_word bytes t (spelling w)) all_words
-
--- a name is UTF-8 and not empty
-abbrev pub IsName : List ℕ → Type 0
-IsName name = IsUtf8 name × (0 < length name)
-
--- the kinds of tokens that stand for names
-abbrev pub IsNamed : TokenKind → Type 0
-IsNamed kinds.Word = Unit {0}
-IsNamed kinds.Quoted = Unit {0}
-IsNamed _ = ⊥

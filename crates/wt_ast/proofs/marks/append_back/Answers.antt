@@ -1,7 +1,7 @@
 use Rattle.std.proofs.Common.{◌∙◌, ◌++◌, ap, sym, append_assoc}
-use Rattle.wt_ast.specs.Lists.{from_back}
+use Rattle.wt_ast.specs.Private.{from_back}
 use Rattle.wt_ast.proofs.Lists.{from_back_last}
-use Rattle.wt_ast.proofs.places.append_back.Goals as goal
+use Rattle.wt_ast.proofs.marks.append_back.Goals as goal
 
 pub lists-preserved : goal.lists-preserved
 lists-preserved c =

@@ -1,6 +1,6 @@
 use Rattle.std.proofs.Common.{◌≡◌, ◌++◌, vec_len}
-use Rattle.wt_ast.specs.Lists.{from_back}
-use Rattle.wt_ast.proofs.places.append_back.Given as goal
+use Rattle.wt_ast.specs.Private.{from_back}
+use Rattle.wt_ast.proofs.marks.append_back.Given as goal
 
 abbrev pub invariant-lists : goal.invariant-lists
 invariant-lists l = l.out.items ++ from_back l.behind.items ≡ l.fn.out.items ++ from_back l.fn.behind.items

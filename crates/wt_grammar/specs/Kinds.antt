@@ -1,25 +1,10 @@
--- Tokens as the grammar sees them.
-use Rattle.std.specs.Prelude.{ℕ, Bool, true, false, ◌||◌, List, [], ◌∷◌}
+-- Tests on kinds of tokens.
+use Rattle.std.specs.Prelude.{Bool, true, false, ◌||◌}
 use Rattle.wt_lex.specs.declared.token.Sym.TheVariants as sym
-use Rattle.wt_grammar.specs.declared.lexeme.Kind.{Kind}
-use Rattle.wt_grammar.specs.declared.lexeme.Kind.TheVariants.{End, Key, Name, Mark}
-use Rattle.wt_grammar.specs.declared.lexeme.Word.TheVariants as word
-use Rattle.wt_grammar.specs.declared.lexeme.Lexeme.{Lexeme}
+use Rattle.wt_lex.specs.declared.words.Word.TheVariants as word
+use Rattle.wt_reading.specs.declared.lexeme.Kind.{Kind}
+use Rattle.wt_reading.specs.declared.lexeme.Kind.TheVariants.{Key, Mark}
 
-abbrev pub Tokens : Type 0
-Tokens = List Lexeme
-
--- the kind of the token at the front; End where there is none
-abbrev pub kind : Tokens → Kind
-kind [] = End
-kind (t ∷ ts) = t.kind
-
--- its place, or that of the statement's end
-abbrev pub place : ℕ → Tokens → ℕ
-place end [] = end
-place end (t ∷ ts) = t.token.start
-
--- tests on kinds
 abbrev pub is_and : Kind → Bool
 is_and (Key word.And) = true
 is_and _ = false
@@ -80,6 +65,10 @@ abbrev pub is_left : Kind → Bool
 is_left (Key word.Left) = true
 is_left _ = false
 
+abbrev pub is_right : Kind → Bool
+is_right (Key word.Right) = true
+is_right _ = false
+
 abbrev pub is_outer : Kind → Bool
 is_outer (Key word.Outer) = true
 is_outer _ = false
@@ -92,18 +81,6 @@ abbrev pub is_on : Kind → Bool
 is_on (Key word.On) = true
 is_on _ = false
 
-abbrev pub is_open : Kind → Bool
-is_open (Mark sym.Open) = true
-is_open _ = false
-
-abbrev pub is_close : Kind → Bool
-is_close (Mark sym.Close) = true
-is_close _ = false
-
-abbrev pub is_comma : Kind → Bool
-is_comma (Mark sym.Comma) = true
-is_comma _ = false
-
 abbrev pub is_dot : Kind → Bool
 is_dot (Mark sym.Dot) = true
 is_dot _ = false
@@ -112,14 +89,6 @@ abbrev pub is_star : Kind → Bool
 is_star (Mark sym.Star) = true
 is_star _ = false
 
-abbrev pub is_name : Kind → Bool
-is_name Name = true
-is_name _ = false
-
-abbrev pub is_end : Kind → Bool
-is_end End = true
-is_end _ = false
-
 -- what begins the words of a join
 abbrev pub begins_join : Kind → Bool
-begins_join k = is_join k || is_inner k || is_left k
+begins_join k = is_join k || is_inner k || is_left k || is_right k

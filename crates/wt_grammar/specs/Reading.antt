@@ -102,9 +102,13 @@ abbrev pub closes_tuple : {A : Type 0} → Tokens → Reading (Unit {0}) A → B
 closes_tuple ts (Ok x) = is_close (kind (drop x.1 ts)) && in_follows (drop 1 (drop x.1 ts))
 closes_tuple ts (Err e) = false
 
+-- columns with commas, `)`, and IN or NOT IN
+unfoldable pub is_tuple : Tokens → Bool
+is_tuple ts = closes_tuple ts (list column_front ts)
+
 -- the parenthesis at the front opens a tuple
 unfoldable pub opens_tuple : Tokens → Bool
-opens_tuple ts = closes_tuple (drop 1 ts) (list column_front (drop 1 ts))
+opens_tuple ts = is_tuple (drop 1 ts)
 
 -- the name and the text of the token at the front
 unfoldable pub name_at : List ℕ → Tokens → List ℕ

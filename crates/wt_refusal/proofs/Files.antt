@@ -11,7 +11,7 @@ use Rattle.wt_ast.specs.Tree.{QueryTree}
 use Rattle.wt_ast.specs.Places.{misplaced, first}
 use Rattle.wt_grammar.specs.declared.fault.QueryFault.{QueryFault}
 use Rattle.wt_grammar.specs.declared.fault.QueryFault.TheVariants as fault
-use Rattle.wt_grammar.specs.Words.{lexeme}
+use Rattle.wt_reading.specs.Lexemes.{lexeme}
 use Rattle.wt_grammar.specs.Reading.{Read, Refusal, refused, odd, statement}
 use Rattle.wt_grammar.specs.Statements.{Statement, File, Answer, file_by, file_of, statements, is_too_long, lexical_or, first_odd, limited, placed, counted, crowded, answer, begin}
 use Rattle.wt_refusal.specs.Refused.{StandsAt, is_of_grammar}

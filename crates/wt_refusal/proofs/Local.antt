@@ -4,11 +4,12 @@ use Rattle.std.proofs.Common.{◌≡◌, ℕ, suc, ◌+◌, ◌≤◌, ◌<◌, 
 use Rattle.std.proofs.lemmas.List.{drop-take}
 use Rattle.std.specs.Prelude.{if◌then◌else◌, ◌||◌, not}
 use Rattle.wt_lex.specs.declared.token.Sym.TheVariants as sym
-use Rattle.wt_grammar.specs.declared.lexeme.Kind.{Kind}
-use Rattle.wt_grammar.specs.declared.lexeme.Kind.TheVariants.{Mark}
+use Rattle.wt_reading.specs.declared.lexeme.Kind.{Kind}
+use Rattle.wt_reading.specs.declared.lexeme.Kind.TheVariants.{Mark}
 use Rattle.wt_grammar.specs.declared.fault.QueryFault.TheVariants as fault
-use Rattle.wt_grammar.specs.Lexemes.{Tokens, kind, place}
-use Rattle.wt_grammar.specs.Reading.{Read, Refusal, refused, odd, plus, followed}
+use Rattle.wt_reading.specs.Lexemes.{Tokens, kind, place}
+use Rattle.wt_reading.specs.Readings.{plus, followed}
+use Rattle.wt_grammar.specs.Reading.{Read, Refusal, refused, odd}
 use Rattle.wt_refusal.specs.Refused.{looked, IsNoTuple}
 
 -- the first n tokens are the same, or both end before

@@ -7,13 +7,16 @@ use Rattle.std.specs.Prelude.{if◌then◌else◌, ◌&&◌, ◌||◌}
 use Rattle.wt_ast.specs.declared.tree.ColumnName.{ColumnName}
 use Rattle.wt_ast.specs.Tree.{CondTree, all_of, any_of}
 use Rattle.wt_grammar.specs.declared.fault.QueryFault.TheVariants as fault
-use Rattle.wt_grammar.specs.Lexemes.{Tokens, kind, place, is_and, is_or, is_not, is_select, is_in, is_open, is_close, is_comma}
+use Rattle.wt_reading.specs.Lexemes.{Tokens, kind, place, is_open, is_close, is_comma}
+use Rattle.wt_grammar.specs.Kinds.{is_and, is_or, is_not, is_select, is_in}
 use Rattle.wt_grammar.specs.Refusals.{syntax}
 use Rattle.wt_grammar.specs.Reading as read
-use Rattle.wt_grammar.specs.Reading.{Read, Refusal, Nest, refused, plus, followed, list, within, opens_tuple, in_follows}
-use Rattle.wt_sentence.specs.Grammar.{Column, Listed, Parens}
-use Rattle.wt_sentence.proofs.Inversions.{held, chosen, ok_parts, followed_ok}
-use Rattle.wt_sentence.proofs.Took.{list_sound, within_at, behind_front}
+use Rattle.wt_reading.specs.Readings.{plus, followed, list, within}
+use Rattle.wt_grammar.specs.Reading.{Read, Refusal, Nest, refused, opens_tuple, in_follows}
+use Rattle.wt_reading.specs.Sentences.{Listed, Parens}
+use Rattle.wt_sentence.specs.Grammar.{Column}
+use Rattle.wt_reading.proofs.Inversions.{held, chosen, ok_parts, followed_ok}
+use Rattle.wt_reading.proofs.Took.{list_sound, within_at, behind_front}
 use Rattle.wt_sentence.proofs.SoundParts.{column_sound}
 use Rattle.wt_sentence.proofs.Tuples.{tuple_opens}
 use Rattle.wt_refusal.specs.Refused.{looked}

@@ -6,12 +6,14 @@ use Rattle.wt_ast.specs.declared.tree.CmpWord.{CmpWord}
 use Rattle.wt_ast.specs.declared.tree.Scalar.{Scalar}
 use Rattle.wt_ast.specs.declared.tree.Scalar.TheVariants as scalar
 use Rattle.wt_ast.specs.Tree.{CondTree, compare, is_null, is_not_null, in_list, in_query, negated}
-use Rattle.wt_grammar.specs.declared.lexeme.Lexeme.{Lexeme}
+use Rattle.wt_reading.specs.declared.lexeme.Lexeme.{Lexeme}
 use Rattle.wt_grammar.specs.declared.fault.QueryFault.TheVariants as fault
-use Rattle.wt_grammar.specs.Lexemes.{Tokens, kind, place, is_and, is_not, is_select, is_between, is_is, is_in, is_null_word, is_open}
+use Rattle.wt_reading.specs.Lexemes.{Tokens, kind, place, is_open}
+use Rattle.wt_grammar.specs.Kinds.{is_and, is_not, is_select, is_between, is_is, is_in, is_null_word}
 use Rattle.wt_grammar.specs.Refusals.{syntax, no_negated}
 use Rattle.wt_grammar.specs.Reading as read
-use Rattle.wt_grammar.specs.Reading.{Read, Refusal, Nest, refused, plus, followed, list, within, expect, cmp_of, between_of, of_column, opens_tuple}
+use Rattle.wt_reading.specs.Readings.{plus, followed, list, within, expect}
+use Rattle.wt_grammar.specs.Reading.{Read, Refusal, Nest, refused, cmp_of, between_of, of_column, opens_tuple}
 use Rattle.wt_sentence.specs.Grammar.{Column}
 use Rattle.wt_sentence.proofs.Follows.{in_is}
 use Rattle.wt_refusal.proofs.Local.{Agree, agree_front, kind_front, LocalAt, Local, refusal_at, barred_at, less_at, as_at, seen_at, test_at, behind_at, next_at, then_at, last_at, refuses}

@@ -10,16 +10,18 @@ use Rattle.wt_ast.specs.declared.tree.Item.{Item}
 use Rattle.wt_ast.specs.declared.tree.Item.TheVariants as items
 use Rattle.wt_ast.specs.declared.tree.Scalar.TheVariants as scalar
 use Rattle.wt_ast.specs.Tree.{CondTree, CondTrees}
-use Rattle.wt_grammar.specs.declared.lexeme.Kind.{Kind}
-use Rattle.wt_grammar.specs.declared.lexeme.Kind.TheVariants.{End, Key, Number, Text, Mark}
-use Rattle.wt_grammar.specs.declared.lexeme.Word.TheVariants as word
+use Rattle.wt_reading.specs.declared.lexeme.Kind.{Kind}
+use Rattle.wt_reading.specs.declared.lexeme.Kind.TheVariants.{End, Key, Number, Text, Mark}
+use Rattle.wt_lex.specs.declared.words.Word.TheVariants as word
 use Rattle.wt_grammar.specs.declared.fault.QueryFault.{QueryFault}
 use Rattle.wt_grammar.specs.declared.fault.QueryFault.TheVariants as fault
-use Rattle.wt_grammar.specs.Lexemes.{Tokens, kind, place, is_name, is_open, is_close, is_comma, is_dot, is_star, is_as}
+use Rattle.wt_reading.specs.Lexemes.{Tokens, kind, place, is_name, is_open, is_close, is_comma}
+use Rattle.wt_grammar.specs.Kinds.{is_dot, is_star, is_as}
 use Rattle.wt_grammar.specs.Refusals.{beyond, no_operand, no_literal, no_item}
 use Rattle.wt_grammar.specs.Reading as read
-use Rattle.wt_grammar.specs.Reading.{Read, Refusal, refused, odd, plus, followed, taken, joined_to, more, list, run, one_or, expect, ended, ended_by, within, name_at, text_at, name_only}
-use Rattle.wt_sentence.proofs.Inversions.{skip}
+use Rattle.wt_reading.specs.Readings.{plus, followed, taken, joined_to, more, list, expect, within}
+use Rattle.wt_grammar.specs.Reading.{Read, Refusal, refused, odd, run, one_or, ended, ended_by, name_at, text_at, name_only}
+use Rattle.wt_reading.proofs.Inversions.{skip}
 use Rattle.wt_refusal.specs.Refused.{looked}
 use Rattle.wt_refusal.proofs.Local.{AtFront, kind_front, place_front, some_looked, agree_front, LocalAt, Local, too_deep, value_at, refusal_at, table_at, less_at, as_at, seen_at, test_at, behind_at, next_at, then_at, last_at}
 

@@ -3,17 +3,19 @@ use Rattle.std.proofs.Common.{◌≡◌, ℕ, suc, zero, ◌-◌, ◌≤◌, ◌
 use Rattle.std.specs.Prelude.{if◌then◌else◌}
 use Rattle.wt_ast.specs.declared.tree.ColumnName.{ColumnName}
 use Rattle.wt_ast.specs.Tree.{FromTree, CondTree, select, no_filter, filter_by, table, derived, negated, is_null}
-use Rattle.wt_grammar.specs.declared.lexeme.Kind.TheVariants.{Key, Mark}
-use Rattle.wt_grammar.specs.declared.lexeme.Word.TheVariants as word
+use Rattle.wt_reading.specs.declared.lexeme.Kind.TheVariants.{Key, Mark}
+use Rattle.wt_lex.specs.declared.words.Word.TheVariants as word
 use Rattle.wt_lex.specs.declared.token.Sym.TheVariants as sym
-use Rattle.wt_grammar.specs.declared.lexeme.Lexeme.{Lexeme}
-use Rattle.wt_grammar.specs.declared.lexeme.JoinKind.{JoinKind}
-use Rattle.wt_grammar.specs.declared.lexeme.JoinKind.TheVariants as joining
+use Rattle.wt_reading.specs.declared.lexeme.Lexeme.{Lexeme}
+use Rattle.wt_grammar.specs.declared.join.JoinKind.{JoinKind}
+use Rattle.wt_grammar.specs.declared.join.JoinKind.TheVariants as joining
 use Rattle.wt_grammar.specs.declared.fault.QueryFault.TheVariants as fault
-use Rattle.wt_grammar.specs.Lexemes.{Tokens, kind, place, is_select, is_distinct, is_all, is_from, is_where, is_as, is_inner, is_outer, is_join, is_on, is_open, is_name, begins_join}
+use Rattle.wt_reading.specs.Lexemes.{Tokens, kind, place, is_open, is_name}
+use Rattle.wt_grammar.specs.Kinds.{is_select, is_distinct, is_all, is_from, is_where, is_as, is_inner, is_outer, is_join, is_on, begins_join}
 use Rattle.wt_grammar.specs.Refusals.{syntax, no_join}
 use Rattle.wt_grammar.specs.Reading as read
-use Rattle.wt_grammar.specs.Reading.{Read, Nest, refused, plus, followed, list, taken, made, chain, expect, within, join_of, name_at, name_only, place_or, no_query_end}
+use Rattle.wt_reading.specs.Readings.{plus, followed, list, taken, chain, expect, within}
+use Rattle.wt_grammar.specs.Reading.{Read, Nest, refused, join_of, name_at, name_only, place_or, no_query_end}
 use Rattle.wt_sentence.specs.Grammar.{Column, deeper}
 use Rattle.wt_sentence.proofs.Complete.{complete_below}
 use Rattle.wt_refusal.proofs.Local.{LocalAt, Local, Gives, value_at, refusal_at, less_at, takes_at, as_at, test_at, behind_at, next_at, then_at, last_at}

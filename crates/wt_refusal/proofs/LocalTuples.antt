@@ -6,19 +6,21 @@ use Rattle.wt_ast.specs.declared.tree.ColumnName.{ColumnName}
 use Rattle.wt_ast.specs.declared.tree.Scalar.{Scalar}
 use Rattle.wt_ast.specs.declared.tree.Scalar.TheVariants as scalar
 use Rattle.wt_ast.specs.Tree.{is_null}
-use Rattle.wt_grammar.specs.declared.lexeme.Kind.{Kind}
-use Rattle.wt_grammar.specs.declared.lexeme.Kind.TheVariants.{Name, Mark}
-use Rattle.wt_grammar.specs.declared.lexeme.Lexeme.{Lexeme}
+use Rattle.wt_reading.specs.declared.lexeme.Kind.{Kind}
+use Rattle.wt_reading.specs.declared.lexeme.Kind.TheVariants.{Name, Mark}
+use Rattle.wt_reading.specs.declared.lexeme.Lexeme.{Lexeme}
 use Rattle.wt_grammar.specs.declared.lexeme.Stage.{Stage}
 use Rattle.wt_grammar.specs.declared.lexeme.Stage.TheVariants as stage
 use Rattle.wt_grammar.specs.declared.fault.QueryFault.TheVariants as fault
-use Rattle.wt_grammar.specs.Lexemes.{Tokens, kind, place, is_is, is_name, is_open, is_close, is_comma, is_dot, is_null_word}
+use Rattle.wt_reading.specs.Lexemes.{Tokens, kind, place, is_name, is_open, is_close, is_comma}
+use Rattle.wt_grammar.specs.Kinds.{is_is, is_dot, is_null_word}
 use Rattle.wt_grammar.specs.Reading as read
-use Rattle.wt_grammar.specs.Reading.{Read, refused, Nest, plus, followed, run, next_stage, ends_column, in_follows, is_tuple, name_at, cmp_of}
+use Rattle.wt_reading.specs.Readings.{plus, followed}
+use Rattle.wt_grammar.specs.Reading.{Read, refused, Nest, run, next_stage, ends_column, in_follows, is_tuple, name_at, cmp_of}
 use Rattle.wt_sentence.specs.Grammar.{Column, Deeper}
 use Rattle.wt_sentence.specs.Grammar as spec
-use Rattle.wt_sentence.proofs.Inversions.{held}
-use Rattle.wt_sentence.proofs.Took.{drop_front}
+use Rattle.wt_reading.proofs.Inversions.{held}
+use Rattle.wt_reading.proofs.Took.{drop_front}
 use Rattle.wt_sentence.proofs.Follows.{Plain, name_is, comma_is, close_is, comma_plain, close_plain}
 use Rattle.wt_sentence.proofs.CompleteParts.{operand_reads}
 

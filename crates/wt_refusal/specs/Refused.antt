@@ -5,10 +5,10 @@ use Rattle.wt_ast.specs.Tree.{QueryTree}
 use Rattle.wt_lex.specs.declared.token.Sym.TheVariants as sym
 use Rattle.wt_grammar.specs.declared.fault.QueryFault.{QueryFault}
 use Rattle.wt_grammar.specs.declared.fault.QueryFault.TheVariants as fault
-use Rattle.wt_grammar.specs.declared.lexeme.Kind.{Kind}
-use Rattle.wt_grammar.specs.declared.lexeme.Kind.TheVariants.{Mark}
-use Rattle.wt_grammar.specs.declared.lexeme.Lexeme.{Lexeme}
-use Rattle.wt_grammar.specs.Lexemes.{Tokens, kind, is_open, is_close, is_comma}
+use Rattle.wt_reading.specs.declared.lexeme.Kind.{Kind}
+use Rattle.wt_reading.specs.declared.lexeme.Kind.TheVariants.{Mark}
+use Rattle.wt_reading.specs.declared.lexeme.Lexeme.{Lexeme}
+use Rattle.wt_reading.specs.Lexemes.{Tokens, kind, is_open, is_close, is_comma}
 use Rattle.wt_grammar.specs.Reading.{Refusal, refused}
 use Rattle.wt_sentence.specs.Grammar.{Column}
 use Rattle.wt_viable.specs.Sentences.{BeginsSome, IsSentence, Parts}

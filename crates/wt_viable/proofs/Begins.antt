@@ -2,16 +2,18 @@
 use Rattle.std.proofs.Common.{◌≡◌, ℕ, suc, zero, ◌⊎◌, inl, inr, Bool, true, false, List, [], ◌∷◌, ◌++◌, drop, refl, ap, sym, ◌∙◌, append_assoc, append-nil, Ok, Err, subst}
 use Rattle.wt_ast.specs.Tree.{CondTree, CondTrees}
 use Rattle.wt_lex.specs.declared.token.TokenKind.TheVariants as kinds
-use Rattle.wt_grammar.specs.declared.lexeme.Kind.{Kind}
-use Rattle.wt_grammar.specs.declared.lexeme.Kind.TheVariants.{End, Mark}
+use Rattle.wt_reading.specs.declared.lexeme.Kind.{Kind}
+use Rattle.wt_reading.specs.declared.lexeme.Kind.TheVariants.{End, Mark}
 use Rattle.wt_lex.specs.declared.token.Sym.TheVariants as sym
-use Rattle.wt_grammar.specs.declared.lexeme.Lexeme.{Lexeme}
+use Rattle.wt_reading.specs.declared.lexeme.Lexeme.{Lexeme}
 use Rattle.wt_grammar.specs.declared.fault.QueryFault.{QueryFault}
-use Rattle.wt_grammar.specs.Lexemes.{Tokens, kind, place, is_open, is_close, is_comma}
-use Rattle.wt_grammar.specs.Reading.{Read, Refusal, refused, plus, followed, taken, joined_to, more, list, run, expect, within, one_or}
-use Rattle.wt_sentence.specs.Grammar.{Seq, Is, Behind, Listed, Parens, Run}
-use Rattle.wt_sentence.proofs.Inversions.{chosen}
-use Rattle.wt_sentence.proofs.Took.{Took, Sound, behind_front, took_is, expected}
+use Rattle.wt_reading.specs.Lexemes.{Tokens, kind, place, is_open, is_close, is_comma}
+use Rattle.wt_reading.specs.Readings.{plus, followed, taken, joined_to, more, list, expect, within}
+use Rattle.wt_grammar.specs.Reading.{Read, Refusal, refused, run, one_or}
+use Rattle.wt_reading.specs.Sentences.{Seq, Is, Behind, Listed, Parens}
+use Rattle.wt_sentence.specs.Grammar.{Run}
+use Rattle.wt_reading.proofs.Inversions.{chosen}
+use Rattle.wt_reading.proofs.Took.{Took, Sound, behind_front, took_is, expected}
 
 -- tokens with some value
 abbrev pub Any : {A : Type 0} → (A → Tokens → Type 0) → Tokens → Type 0

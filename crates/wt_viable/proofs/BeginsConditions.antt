@@ -8,18 +8,21 @@ use Rattle.wt_ast.specs.declared.tree.CmpWord.TheVariants as cmp
 use Rattle.wt_ast.specs.declared.tree.Scalar.{Scalar}
 use Rattle.wt_ast.specs.declared.tree.Scalar.TheVariants as scalar
 use Rattle.wt_ast.specs.Tree.{CondTree, compare, is_null, is_not_null, in_list, in_query, all_of, any_of, negated}
-use Rattle.wt_grammar.specs.declared.lexeme.Kind.TheVariants.{Key, Mark}
-use Rattle.wt_grammar.specs.declared.lexeme.Word.TheVariants as words
-use Rattle.wt_grammar.specs.declared.lexeme.Lexeme.{Lexeme}
+use Rattle.wt_reading.specs.declared.lexeme.Kind.TheVariants.{Key, Mark}
+use Rattle.wt_lex.specs.declared.words.Word.TheVariants as words
+use Rattle.wt_reading.specs.declared.lexeme.Lexeme.{Lexeme}
 use Rattle.wt_grammar.specs.declared.fault.QueryFault.TheVariants as fault
-use Rattle.wt_grammar.specs.Lexemes.{Tokens, kind, place, is_and, is_or, is_not, is_select, is_between, is_is, is_null_word, is_in, is_open}
+use Rattle.wt_reading.specs.Lexemes.{Tokens, kind, place, is_open}
+use Rattle.wt_grammar.specs.Kinds.{is_and, is_or, is_not, is_select, is_between, is_is, is_null_word, is_in}
 use Rattle.wt_grammar.specs.Refusals.{syntax, no_negated}
 use Rattle.wt_grammar.specs.Reading as read
-use Rattle.wt_grammar.specs.Reading.{Read, Refusal, refused, Nest, plus, followed, expect, cmp_of, between_of, opens_tuple}
-use Rattle.wt_sentence.specs.Grammar.{Seq, One, Is, Listed, Parens, Column, AnyLiteral, Operand, Deeper}
+use Rattle.wt_reading.specs.Readings.{plus, followed, expect}
+use Rattle.wt_grammar.specs.Reading.{Read, Refusal, refused, Nest, cmp_of, between_of, opens_tuple}
+use Rattle.wt_reading.specs.Sentences.{Seq, One, Is, Listed, Parens}
+use Rattle.wt_sentence.specs.Grammar.{Column, AnyLiteral, Operand, Deeper}
 use Rattle.wt_sentence.specs.Grammar as spec
-use Rattle.wt_sentence.proofs.Inversions.{chosen}
-use Rattle.wt_sentence.proofs.Took.{Took, Sound, took_is, list_sound}
+use Rattle.wt_reading.proofs.Inversions.{chosen}
+use Rattle.wt_reading.proofs.Took.{Took, Sound, took_is, list_sound}
 use Rattle.wt_sentence.proofs.SoundParts.{column_sound, operand_sound, literal_sound}
 use Rattle.wt_sentence.proofs.SoundQueries.{SoundBelow, listed_sound, neg_sound, conj_sound}
 use Rattle.wt_viable.proofs.Begins.{Any, Ending, Begins, Viable, token_of, a_token, then_ending, as_ending, listed_one, run_one, plus_err, last_err, err_parts, begins_at_front, begins_then, begins_as, begins_followed, begins_expect, begins_expected, begins_within, begins_list, begins_run}

@@ -2,19 +2,22 @@
 use Rattle.std.proofs.Common.{◌≡◌, ℕ, suc, zero, ◌-◌, ◌≤◌, ◌⊎◌, inl, inr, Bool, true, false, List, [], ◌∷◌, ◌++◌, drop, refl, ap, sym, ◌∙◌, arith, append-nil, Ok, Err, Some, None, subst}
 use Rattle.wt_ast.specs.declared.tree.Item.{Item}
 use Rattle.wt_ast.specs.Tree.{QueryTree, FromTree, select, no_filter, filter_by, table, derived}
-use Rattle.wt_grammar.specs.declared.lexeme.Kind.TheVariants.{Key}
-use Rattle.wt_grammar.specs.declared.lexeme.Word.TheVariants as words
-use Rattle.wt_grammar.specs.declared.lexeme.JoinKind.{JoinKind}
-use Rattle.wt_grammar.specs.declared.lexeme.JoinKind.TheVariants as joining
+use Rattle.wt_reading.specs.declared.lexeme.Kind.TheVariants.{Key}
+use Rattle.wt_lex.specs.declared.words.Word.TheVariants as words
+use Rattle.wt_grammar.specs.declared.join.JoinKind.{JoinKind}
+use Rattle.wt_grammar.specs.declared.join.JoinKind.TheVariants as joining
 use Rattle.wt_grammar.specs.declared.fault.QueryFault.TheVariants as fault
-use Rattle.wt_grammar.specs.Lexemes.{Tokens, kind, place, is_select, is_distinct, is_all, is_from, is_where, is_as, is_inner, is_left, is_outer, is_join, is_on, is_open, is_name, begins_join}
+use Rattle.wt_reading.specs.Lexemes.{Tokens, kind, place, is_open, is_name}
+use Rattle.wt_grammar.specs.Kinds.{is_select, is_distinct, is_all, is_from, is_where, is_as, is_inner, is_left, is_outer, is_join, is_on, begins_join}
 use Rattle.wt_grammar.specs.Refusals.{syntax, no_join}
 use Rattle.wt_grammar.specs.Reading as read
-use Rattle.wt_grammar.specs.Reading.{Read, Refusal, refused, Nest, plus, followed, expect, chain, made, taken, join_of, name_only, place_or}
-use Rattle.wt_sentence.specs.Grammar.{Seq, Is, Listed, Named, Alias, IsItem, Deeper}
+use Rattle.wt_reading.specs.Readings.{plus, followed, expect, chain, taken}
+use Rattle.wt_grammar.specs.Reading.{Read, Refusal, refused, Nest, join_of, name_only, place_or}
+use Rattle.wt_reading.specs.Sentences.{Seq, Is, Listed}
+use Rattle.wt_sentence.specs.Grammar.{Named, Alias, IsItem, Deeper}
 use Rattle.wt_sentence.specs.Grammar as spec
-use Rattle.wt_sentence.proofs.Inversions.{chosen}
-use Rattle.wt_sentence.proofs.Took.{took_is, list_sound}
+use Rattle.wt_reading.proofs.Inversions.{chosen}
+use Rattle.wt_reading.proofs.Took.{took_is, list_sound}
 use Rattle.wt_sentence.proofs.Follows.{left_begins}
 use Rattle.wt_sentence.proofs.SoundParts.{any_name_sound, item_sound}
 use Rattle.wt_sentence.proofs.SoundQueries.{SoundBelow, derived_name_sound, primary_sound, words_sound, join_sound, join_some, joined_sound, quantifier_sound}

@@ -3,16 +3,19 @@ use Rattle.std.proofs.Common.{◌≡◌, ℕ, suc, zero, ◌⊎◌, inl, inr, tr
 use Rattle.std.specs.Prelude.{if◌then◌else◌}
 use Rattle.wt_ast.specs.Tree.{QueryTree, CondTree, negated}
 use Rattle.wt_grammar.specs.declared.fault.QueryFault.TheVariants as fault
-use Rattle.wt_grammar.specs.declared.lexeme.Kind.TheVariants.{Key}
-use Rattle.wt_grammar.specs.declared.lexeme.Word.TheVariants as words
-use Rattle.wt_grammar.specs.Lexemes.{Tokens, kind, place, is_not, is_select, is_end}
+use Rattle.wt_reading.specs.declared.lexeme.Kind.TheVariants.{Key}
+use Rattle.wt_lex.specs.declared.words.Word.TheVariants as words
+use Rattle.wt_reading.specs.Lexemes.{Tokens, kind, place, is_end}
+use Rattle.wt_grammar.specs.Kinds.{is_not, is_select}
 use Rattle.wt_grammar.specs.Refusals.{syntax, no_join, no_statement}
 use Rattle.wt_grammar.specs.Reading as read
-use Rattle.wt_grammar.specs.Reading.{Read, Refusal, refused, Nest, plus, no_query_end}
-use Rattle.wt_sentence.specs.Grammar.{Seq, Is, IsAt, Parens, Deeper, deeper}
+use Rattle.wt_reading.specs.Readings.{plus}
+use Rattle.wt_grammar.specs.Reading.{Read, Refusal, refused, Nest, no_query_end}
+use Rattle.wt_reading.specs.Sentences.{Seq, Is, IsAt, Parens}
+use Rattle.wt_sentence.specs.Grammar.{Deeper, deeper}
 use Rattle.wt_sentence.specs.Grammar as spec
-use Rattle.wt_sentence.proofs.Inversions.{chosen, plus_ok}
-use Rattle.wt_sentence.proofs.Took.{Took, took_is, took_then, took_as}
+use Rattle.wt_reading.proofs.Inversions.{chosen, plus_ok}
+use Rattle.wt_reading.proofs.Took.{Took, took_is, took_then, took_as}
 use Rattle.wt_sentence.proofs.SoundQueries.{SoundBelow, cond_sound, joined_sound, body_sound}
 use Rattle.wt_sentence.proofs.Sound.{sound_below}
 use Rattle.wt_viable.specs.Sentences.{BeginsSome, Parts, IsSentence}

@@ -6,12 +6,14 @@ use Rattle.wt_ast.specs.declared.tree.Scalar.{Scalar}
 use Rattle.wt_ast.specs.declared.tree.Scalar.TheVariants as scalar
 use Rattle.wt_ast.specs.Tree.{QueryTree, FromTree, CondTree, CondTrees, select, filter_by, derived, in_list, in_query, negated}
 use Rattle.wt_ast.specs.Tree as tree
-use Rattle.wt_grammar.specs.declared.lexeme.Kind.{Kind}
+use Rattle.wt_reading.specs.declared.lexeme.Kind.{Kind}
 use Rattle.wt_grammar.specs.declared.fault.QueryFault.{QueryFault}
 use Rattle.wt_grammar.specs.declared.fault.QueryFault.TheVariants as fault
-use Rattle.wt_grammar.specs.Lexemes.{Tokens, kind, place, is_and, is_or, is_not, is_select, is_where, is_between, is_is, is_in, is_name, is_open, is_close, is_on, is_from, is_end, begins_join}
+use Rattle.wt_reading.specs.Lexemes.{Tokens, kind, place, is_name, is_open, is_close, is_end}
+use Rattle.wt_grammar.specs.Kinds.{is_and, is_or, is_not, is_select, is_where, is_between, is_is, is_in, is_on, is_from, begins_join}
 use Rattle.wt_grammar.specs.Refusals.{syntax, no_join}
-use Rattle.wt_grammar.specs.Reading.{Read, refused, plus, followed, taken, joined_to, more, list, run, chain, made, expect, no, of_column, join_of, no_query_end, Nest}
+use Rattle.wt_reading.specs.Readings.{plus, followed, taken, joined_to, more, list, chain, expect}
+use Rattle.wt_grammar.specs.Reading.{Read, refused, run, no, of_column, join_of, no_query_end, Nest}
 use Rattle.wt_grammar.specs.Reading as read
 use Rattle.wt_sentence.proofs.Complete.{statement_with}
 

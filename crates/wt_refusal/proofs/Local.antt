@@ -78,8 +78,8 @@ refuses_followed deep ts (Err e) g h = h
 
 module _ (end : ℕ) (bytes : List ℕ) where
   no_tuple_left : (m k : ℕ) (ts behind : Tokens) → IsNoTuple end bytes (take k (drop m ts)) behind → IsNoTuple end bytes (take (m + k) ts) behind
-  no_tuple_left m k ts behind (a, t, b, c, e, opens, col, next) =
-      (take m ts ++ a, t, b, c, take-add m k ts ∙ ap (λ z. take m ts ++ z) e ∙ sym (append_assoc (take m ts) a (t ∷ b)), opens, col, next)
+  no_tuple_left m k ts behind (a, t, b, c, e, opens, col, next, none) =
+      (take m ts ++ a, t, b, c, take-add m k ts ∙ ap (λ z. take m ts ++ z) e ∙ sym (append_assoc (take m ts) a (t ∷ b)), opens, col, next, none)
 
   -- Of a refusal at the k-th token: whatever begins with the tokens that show it is refused, or it is where a parenthesis
   -- turns out to be no tuple. It shows no sooner than behind d tokens.

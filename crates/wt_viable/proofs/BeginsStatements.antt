@@ -102,9 +102,9 @@ module _ (end : ℕ) (bytes : List ℕ) where
         queries = λ ts why at is si h. begins_within end (Query (deeper end bytes (suc l))) (λ ts. plus 1 (read.body end bytes (read.nest end bytes l) (drop 1 ts))) no_query_end ts why at is
             (select_begins (read.nest end bytes l) (deeper end bytes (suc l)) sound below (drop 1 ts) why at si)
             (λ q n e. select_sound (read.nest end bytes l) (deeper end bytes (suc l)) sound (drop 1 ts) q n si e) h;
-        froms = λ ts why at is h. begins_within end (spec.Joined end bytes (deeper end bytes (suc l))) (read.joined end bytes (read.nest end bytes l)) (λ _. no_join) ts why at is
-            (joined_begins end bytes (deeper end bytes (suc l)) (read.nest end bytes l) sound below (drop 1 ts) why at)
-            (joined_sound end bytes (read.nest end bytes l) (deeper end bytes (suc l)) sound (drop 1 ts)) h;
+        froms = λ ts why at is h. begins_within end (spec.Joined end bytes (deeper end bytes (suc l))) (read.joined end bytes (read.nest end bytes l) true) (λ _. no_join true) ts why at is
+            (joined_begins end bytes (deeper end bytes (suc l)) (read.nest end bytes l) sound below true (drop 1 ts) why at)
+            (joined_sound end bytes (read.nest end bytes l) (deeper end bytes (suc l)) sound true (drop 1 ts)) h;
         query_behind = λ t opens. parens_behind (Query (deeper end bytes (suc l))) t opens (a_select end bytes (deeper end bytes (suc l)));
       }
 

@@ -1,5 +1,5 @@
 -- What is known under a set of a pair's atoms can be computed, so there always is such a knowledge.
-use Rattle.std.proofs.Common.{ℕ, zero, suc, ◌+◌, ◌≡◌, ◌↔◌, ◌⊎◌, inl, inr, Bool, true, false, ◌&&◌, ◌||◌, List, [], ◌∷◌, ◌++◌, Some, refl, sym, ap, ◌∙◌, subst, nat_eq, cond, arith, eqb-true, eq-eqb}
+use Rattle.std.proofs.Common.{ℕ, zero, suc, ◌+◌, ◌≡◌, ◌⊎◌, inl, inr, Bool, true, false, ◌&&◌, ◌||◌, List, [], ◌∷◌, ◌++◌, Some, refl, sym, ap, ◌∙◌, subst, nat_eq, cond, arith, eqb-true, eq-eqb}
 use Rattle.std.specs.Prelude.{slice_get, flat_map}
 use Rattle.std.specs.List.{list_any}
 use Rattle.std.specs.Int.{bit_at}
@@ -14,10 +14,9 @@ use Rattle.wt_constraint.specs.declared.atom.Kind.{Kind}
 use Rattle.wt_constraint.specs.declared.atom.Kind.TheVariants.{Leaves, Lists, Preds}
 use Rattle.wt_constraint.specs.declared.set.AtomSet.{AtomSet}
 use Rattle.wt_constraint.specs.Atoms.{equal, atoms_of_pair}
-use Rattle.wt_constraint.specs.Sets.{HasAtom}
 use Rattle.wt_constraint.specs.Sameness.{AreSame, reflexive, linked, symmetric, transitive}
 use Rattle.wt_form.specs.Known.{Known}
-use Rattle.wt_form.specs.Under.{Under, Asks, Holds, Refers, KeptBelow, SameLeaf, SameList, SamePred, kept_below}
+use Rattle.wt_form.specs.Under.{Under, Asks, Holds, Refers, KeptBelow, SameLeaf, SameList, kept_below}
 
 -- the atoms of the set, of which the first has number k
 abbrev asked_from : ℕ → List Atom → AtomSet → List Atom

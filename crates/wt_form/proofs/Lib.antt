@@ -4,3 +4,9 @@ pub mod SameGrows
 pub mod StepsGrow
 pub mod Asked
 pub mod SetsGrow
+pub mod Exprs
+pub mod StaySmall
+pub mod Sizes
+pub mod Rewrites
+pub mod Weighing
+pub mod SmallSides

@@ -1,6 +1,5 @@
 -- That moves can be taken apart: a table under more is a table of more moves.
-use Rattle.std.proofs.Common.{ℕ, Bool, true, false, List}
-use Rattle.wt_symbol.specs.declared.head.Part.{Part}
+use Rattle.std.proofs.Common.{Bool, true, List}
 use Rattle.wt_form.specs.declared.form.Expr.{Expr}
 use Rattle.wt_form.specs.Trees.{Terms, Ranges, Conds}
 use Rattle.wt_form.specs.Steps.{Table, PairTable, TermsStep, at_term, at_two, later_term, in_range, in_cond, RangesStep, at_range, later_range, CondsStep, at_in, at_not_in, later_cond}

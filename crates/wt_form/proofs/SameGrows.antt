@@ -1,5 +1,5 @@
 -- What is the same stays the same where more is known.
-use Rattle.std.proofs.Common.{ℕ, zero, suc, Bool, true, false, ◌&&◌, List, [], ◌∷◌, ◌≡◌, ◌⊎◌, inl, inr, refl, nat_eq}
+use Rattle.std.proofs.Common.{ℕ, zero, suc, Bool, true, ◌&&◌, List, [], ◌∷◌, ◌≡◌, inl, inr, refl, nat_eq}
 use Rattle.std.proofs.lemmas.Bool.{and_parts, and_from, false≢true}
 use Rattle.wt_bag.specs.Choices.{At, drop_at}
 use Rattle.wt_symbol.specs.declared.head.Part.{Part}

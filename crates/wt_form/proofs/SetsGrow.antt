@@ -1,5 +1,5 @@
 -- What is known under a set is known under every set that contains it.
-use Rattle.std.proofs.Common.{ℕ, ◌≡◌, ◌⊎◌, inl, inr, true}
+use Rattle.std.proofs.Common.{ℕ, ◌⊎◌, inl, inr}
 use Rattle.wt_symbol.specs.Sides.{PairTree}
 use Rattle.wt_constraint.specs.declared.atom.Atom.{Atom}
 use Rattle.wt_constraint.specs.declared.atom.Atom.TheVariants.{Unique, NotNull, RefAttrs}
@@ -31,7 +31,8 @@ module _ (p : PairTree) (s t : AtomSet) (into : (i : ℕ) → HasAtom s i → Ha
 
   refers_more : (r a q b : ℕ) → Refers p s r a q b → Refers p t r a q b
   refers_more r a q b h = record {
-    from = h.from; to = h.to;
+    from = h.from;
+    to = h.to;
     asked = asks_more (RefAttrs h.from h.to) h.asked;
     leaf = same_more Leaves r _ h.leaf;
     list = same_more Lists a h.from h.list;

@@ -1,5 +1,5 @@
 -- A step stays a step where more is known.
-use Rattle.std.proofs.Common.{ℕ, zero, suc, ◌<◌, ◌≡◌, ◌⊎◌, inl, inr, Bool, true, false, List, [], ◌∷◌}
+use Rattle.std.proofs.Common.{ℕ, zero, suc, ◌≡◌, ◌⊎◌, inl, inr, Bool, true, false, List}
 use Rattle.wt_symbol.specs.declared.head.Part.{Part}
 use Rattle.wt_symbol.specs.declared.head.PartCols.TheVariants.{Whole, List as Listed}
 use Rattle.wt_form.specs.declared.form.Expr.{Expr}
@@ -12,10 +12,10 @@ use Rattle.wt_form.specs.Facts.{NotNull, by_relation, by_condition, Determined, 
 use Rattle.wt_bag.specs.Choices.{Has}
 use Rattle.wt_form.specs.Congruent.{CondSame}
 use Rattle.wt_form.specs.Places.{others, itself}
-use Rattle.wt_form.specs.Drops.{Repeated, NeverNull, SelfJoin, ByReference, ByJoin, InTrue, NotInFalse}
-use Rattle.wt_form.specs.Joining.{Joined, JoinToIn, JoinedTogether, Merged, Rewritten}
-use Rattle.wt_form.specs.Opening.{AllDetermined, Opened}
-use Rattle.wt_form.specs.TwoTerms.{TermSame, SplitByIn, Twins}
+use Rattle.wt_form.specs.Drops.{NeverNull, ByReference, ByJoin}
+use Rattle.wt_form.specs.Joining.{Joined, JoinedTogether}
+use Rattle.wt_form.specs.Opening.{AllDetermined}
+use Rattle.wt_form.specs.TwoTerms.{TermSame}
 use Rattle.wt_form.specs.Steps.{Row, by_repeated, by_self_join, by_in_true, by_join_to_in, by_merged, by_not_in_false, by_null_compared, by_not_in_of_null, by_opened, by_rewritten, PairRow, in_first, in_second, twin, Step}
 use Rattle.wt_form.specs.Provable.{Chain, ProvableForms}
 use Rattle.wt_form.proofs.Moves.{terms_more}
@@ -40,7 +40,11 @@ module _ (K L : Known) (more : Grows K L) where
 
   by_reference_grows : (rs : Ranges) (cs : Conds) (e : Expr) (ts : Terms) → ByReference K rs cs e ts → ByReference L rs cs e ts
   by_reference_grows rs cs e ts h = record {
-    x = h.x; a = h.a; r = h.r; s = h.s; b = h.b;
+    x = h.x;
+    a = h.a;
+    r = h.r;
+    s = h.s;
+    b = h.b;
     from = h.from;
     over = h.over;
     to = h.to;
@@ -50,7 +54,13 @@ module _ (K L : Known) (more : Grows K L) where
 
   by_join_grows : (rs : Ranges) (cs : Conds) (e : Expr) (ts : Terms) → ByJoin K rs cs e ts → ByJoin L rs cs e ts
   by_join_grows rs cs e ts h = record {
-    e' = h.e'; y = h.y; b = h.b; r = h.r; s = h.s; b' = h.b'; join = h.join;
+    e' = h.e';
+    y = h.y;
+    b = h.b;
+    r = h.r;
+    s = h.s;
+    b' = h.b';
+    join = h.join;
     there = h.there;
     joins = h.joins;
     same = expr_grows K L more (itself rs) e h.e' h.same;
@@ -87,28 +97,44 @@ module _ (K L : Known) (more : Grows K L) where
 
   pub row_grows : (nested : Bool) (rs : Ranges) (cs : Conds) (ps : List Expr) (us : Terms) → Row K nested rs cs ps us → Row L nested rs cs ps us
   row_grows nested rs cs ps us (by_repeated h) = by_repeated record {
-    before = h.before; between = h.between; after = h.after; earlier = h.earlier; later = h.later;
+    before = h.before;
+    between = h.between;
+    after = h.after;
+    earlier = h.earlier;
+    later = h.later;
     is = h.is;
     same = cond_grows K L more (itself rs) h.earlier h.later h.same;
     gives = h.gives;
   }
   row_grows nested rs cs ps us (by_self_join h) = by_self_join record {
-    x = h.x; y = h.y; place = h.place;
+    x = h.x;
+    y = h.y;
+    place = h.place;
     same = expr_grows K L more (itself rs) h.x h.y h.same;
     never_null = never_null_grows rs (others h.place) h.x h.never_null;
     gives = h.gives;
   }
   row_grows nested rs cs ps us (by_in_true h) = by_in_true record { e = h.e; h = h.h; ts = h.ts; place = h.place; why = in_true_why rs (others h.place) h.e h.ts h.why; gives = h.gives }
   row_grows nested rs cs ps us (by_join_to_in h) = by_join_to_in record {
-    range = h.range; at = h.at; e = h.e; b = h.b; join = h.join; place = h.place;
+    range = h.range;
+    at = h.at;
+    e = h.e;
+    b = h.b;
+    join = h.join;
+    place = h.place;
     joins = h.joins;
     elsewhere = h.elsewhere;
-    h = h.h; ts = h.ts;
+    h = h.h;
+    ts = h.ts;
     becomes = joined_grows nested h.range h.b h.h h.ts h.becomes;
     gives = h.gives;
   }
   row_grows nested rs cs ps us (by_merged h) = by_merged record {
-    x = h.x; r = h.r; s = h.s; a = h.a; at = h.at;
+    x = h.x;
+    r = h.r;
+    s = h.s;
+    a = h.a;
+    at = h.at;
     before = h.before;
     over = h.over;
     leaf = more.rel h.r h.s h.leaf;
@@ -120,16 +146,25 @@ module _ (K L : Known) (more : Grows K L) where
   row_grows nested rs cs ps us (by_null_compared h) = by_null_compared h
   row_grows nested rs cs ps us (by_not_in_of_null h) = by_not_in_of_null h
   row_grows nested rs cs ps us (by_opened h) = by_opened record {
-    before = h.before; after = h.after; head = h.head; inner = h.inner; conds = h.conds; pieces = h.pieces;
+    before = h.before;
+    after = h.after;
+    head = h.head;
+    inner = h.inner;
+    conds = h.conds;
+    pieces = h.pieces;
     is = h.is;
     allowed = allowed_grows nested h.inner h.conds h.pieces h.allowed;
-    cs' = h.cs'; ps' = h.ps';
+    cs' = h.cs';
+    ps' = h.ps';
     conds_opened = h.conds_opened;
     pieces_opened = h.pieces_opened;
     gives = h.gives;
   }
   row_grows nested rs cs ps us (by_rewritten h) = by_rewritten record {
-    e = h.e; e' = h.e'; join = h.join; place = h.place;
+    e = h.e;
+    e' = h.e';
+    join = h.join;
+    place = h.place;
     joins = h.joins;
     earlier = h.earlier;
     cs' = h.cs';
@@ -147,13 +182,29 @@ module _ (K L : Known) (more : Grows K L) where
 
   pub pair_row_grows : (nested : Bool) (rs : Ranges) (cs : Conds) (ps : List Expr) (rs' : Ranges) (cs' : Conds) (ps' : List Expr) (us : Terms) → PairRow K nested rs cs ps rs' cs' ps' us → PairRow L nested rs cs ps rs' cs' ps' us
   pair_row_grows nested rs cs ps rs' cs' ps' us (in_first h) = in_first record {
-    e = h.e; h = h.h; ts = h.ts; e' = h.e'; h' = h.h'; us = h.us; place = h.place; place' = h.place'; ks = h.ks;
+    e = h.e;
+    h = h.h;
+    ts = h.ts;
+    e' = h.e';
+    h' = h.h';
+    us = h.us;
+    place = h.place;
+    place' = h.place';
+    ks = h.ks;
     values = expr_grows K L more h.ks h.e h.e' h.values;
     rows = terms_grow K L more h.ts h.us h.rows;
     same = term_grows h.ks rs (others h.place) ps rs' (others h.place') ps' h.same;
   }
   pair_row_grows nested rs cs ps rs' cs' ps' us (in_second h) = in_second record {
-    e = h.e; h = h.h; ts = h.ts; e' = h.e'; h' = h.h'; us = h.us; place = h.place; place' = h.place'; ks = h.ks;
+    e = h.e;
+    h = h.h;
+    ts = h.ts;
+    e' = h.e';
+    h' = h.h';
+    us = h.us;
+    place = h.place;
+    place' = h.place';
+    ks = h.ks;
     values = expr_grows K L more h.ks h.e h.e' h.values;
     rows = terms_grow K L more h.ts h.us h.rows;
     same = term_grows h.ks rs' (others h.place) ps' rs (others h.place') ps h.same;

@@ -77,6 +77,7 @@ pub record InTrue (K : Known) (rs : Ranges) (cs : Conds) (ps : List Expr) (us : 
   pub why : ByReference K rs (others place) e ts ⊎ ByJoin K rs (others place) e ts
   pub gives : us ≡ one_term rs (others place) ps
 
+-- the expression is NULL, column by column
 abbrev pub IsNull : Expr → Type 0
 IsNull (NullOf r c) = Unit {0}
 IsNull (Of v i c) = ⊥

@@ -42,6 +42,7 @@ JoinedTogether K rs cs a x y = (b : ℕ) × (c : ℕ) × (K.attr b a ≡ true) �
     ⊎ ((p : Cond) × (q : Cond) × (e : Expr) × (e' : Expr) × Has p (conds_list cs) × Has q (conds_list cs)
     × Joins (Of x 0 (Listed b)) e p × Joins (Of y 0 (Listed c)) e' q × (expr_same K (itself rs) e e' ≡ true)))
 
+-- one variable stands for two over leaves that are the same, joined on a unique list; all conditions stay
 pub record Merged (K : Known) (rs : Ranges) (cs : Conds) (ps : List Expr) (us : Terms) : Type 0 where
   pub x : ℕ
   pub r : ℕ

@@ -18,3 +18,4 @@ pub mod Under
 pub mod Relaxed
 pub mod Shrunk
 pub mod Growing
+pub mod Closed

@@ -33,6 +33,7 @@ pub record Opening : Type 0 where
   pub head : List Part
   pub pieces : List Expr
 
+-- the expression where the variable is opened: none where its columns cannot be cut from a piece
 abbrev pub expr_opened : Opening → Expr → Option Expr
 expr_opened o (Of v i c) = cond (nat_lt v o.at) (Some (Of v i c)) (cond (nat_eq v o.at) (take_part o.head o.pieces i c) (Some (Of (o.n + v - 1) i c)))
 expr_opened o (NullOf r c) = Some (NullOf r c)

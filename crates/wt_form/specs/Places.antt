@@ -16,9 +16,11 @@ pub record CondAt (cs : Conds) (c : Cond) : Type 0 where
   pub after : Conds
   pub is : cs ≡ conds_append before (cond_then c after)
 
+-- the term's other conditions
 abbrev pub others : {cs : Conds} {c : Cond} → CondAt cs c → Conds
 others p = conds_append p.before p.after
 
+-- the term's conditions with another one in its place
 abbrev pub replaced : {cs : Conds} {c : Cond} → CondAt cs c → Cond → Conds
 replaced p d = conds_append p.before (cond_then d p.after)
 

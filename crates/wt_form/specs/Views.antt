@@ -1,5 +1,5 @@
 -- The forms of the program as plain data, which have no pointers.
-use Rattle.std.specs.Prelude.{ℕ, List, [], ◌∷◌}
+use Rattle.std.specs.Prelude.{List, [], ◌∷◌}
 use Rattle.wt_form.specs.declared.form.Expr.{Expr}
 use Rattle.wt_form.specs.declared.form.Form.{Form as CodeForm}
 use Rattle.wt_form.specs.declared.form.Term.{Term as CodeTerm}

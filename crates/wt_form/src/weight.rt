@@ -13,7 +13,9 @@ impl Expr {
     {
         match self {
             Expr::Of(v, i, PartCols::Whole) => 4096 * u64::from(v) + 64 * u64::from(i) + 63,
-            Expr::Of(v, i, PartCols::List(a)) => 4096 * u64::from(v) + 64 * u64::from(i) + u64::from(a),
+            Expr::Of(v, i, PartCols::List(a)) => 4096 * u64::from(v)
+                + 64 * u64::from(i)
+                + u64::from(a),
             Expr::Null(_, _) => 0,
         }
     }

@@ -2,14 +2,13 @@
 use Rattle.std.proofs.Common.{◌≡◌, ◌≢◌, ◌∙◌, ℕ, ◌≤◌, List, ◌⊎◌, Bool, true, false, sym, cond, subst, inl, inr, arith, rules}
 use Rattle.std.proofs.lemmas.Result.{IfOk-from_err}
 use Rattle.std.specs.Prelude.{Ok, Err, Some, None, IsErr, MatchResult, Result}
-use Rattle.std.specs.Io.KnownBytes.{append_known}
 use Rattle.std.specs.declared.option.Option.{Option}
 use Rattle.wt_tool.specs.declared.input.Input.{Input}
 use Rattle.wt_tool.specs.declared.words.UsageFault.{UsageFault}
 use Rattle.wt_tool.specs.Answers.{Answers, CommandOutcome, RunOutcome, WithInputs, usage}
 use Rattle.wt_pair.specs.declared.bounds.Bounds.{Bounds}
 use Rattle.wt_tool.specs.Discovering.{IsDiscovered}
-use Rattle.wt_tool.specs.Outcomes.{AppendsPrefix, Ends, Outcome}
+use Rattle.wt_tool.specs.Outcomes.{AppendsPrefix, Ends, Outcome, Writes}
 use Rattle.wt_ddl.specs.Schemas.{schema_of}
 use Rattle.wt_ddl.specs.declared.fault.DdlError.{DdlError}
 use Rattle.wt_ddl.specs.declared.fault.DdlError.TheVariants as ddl
@@ -96,8 +95,8 @@ any_run told words P Q f h =
     ] h
 
 module _ {told : List ℕ → Option (List ℕ)} {words : List (List ℕ)} {read write : Type 0} {old new : Option (List ℕ)} {s : ℕ} (h : Answers told words read write old new s) where
-  pub bytes_of : s ≢ 3 → s ≢ 5 → s ≢ 6 → RunOutcome told words (λ o. (o.status ≡ Some s) × (new ≡ append_known old o.text))
-  bytes_of a b c = of_run told words (λ o. Ends read write old new o s) (λ o. (o.status ≡ Some s) × (new ≡ append_known old o.text)) (λ o ends. ends.done a b c) h.outcome
+  pub bytes_of : s ≢ 3 → s ≢ 5 → s ≢ 6 → RunOutcome told words (λ o. Writes old new o s)
+  bytes_of a b c = of_run told words (λ o. Ends read write old new o s) (λ o. Writes old new o s) (λ o ends. ends.done a b c) h.outcome
 
   pub read_of : s ≡ 3 → read × (new ≡ old)
   read_of e = any_run told words (λ o. Ends read write old new o s) (read × (new ≡ old)) (λ o small ends. ends.read e) h.outcome
@@ -138,17 +137,24 @@ module _ {told : List ℕ → Option (List ℕ)} {words : List (List ℕ)} {read
         | Err fault ↦ λ k refused. one_where fault k
       ] h.outcome
 
--- The same of one command alone, of any outcome that is fine.
+-- What the clause of `rewrite` says of its statuses one by one.
+module _ {told : List ℕ → Option (List ℕ)} {names : Names} {read write : Type 0} {old new : Option (List ℕ)} {s : ℕ}
+    (h : WithInputs told names (λ rules schema queries. Ends read write old new (rewriting names rules schema queries) s)) where
+  pub rewritten_bytes : s ≢ 3 → s ≢ 5 → s ≢ 6 → WithInputs told names (λ rules schema queries. Writes old new (rewriting names rules schema queries) s)
+  rewritten_bytes a b c = (h.0, h.1, h.2, h.3, h.4.done a b c)
 
-module _ {read write : Type 0} {old new : Option (List ℕ)} {s : ℕ} (o : Outcome) (fine : Fine o.status) (ends : Ends read write old new o s) where
-  pub one_known : s ≤ 6
-  one_known =
-      let done : s ≢ 3 → s ≢ 5 → s ≢ 6 → s ≤ 6 = λ a b c. (subst Fine (ends.done a b c).0 fine).0 in
-      grind (arith, done)
+  pub rewritten_read : s ≡ 3 → read × (new ≡ old)
+  rewritten_read e = h.4.read e
 
-pub rewritten_known : {read write : Type 0} {old new : Option (List ℕ)} {s : ℕ} (told : List ℕ → Option (List ℕ)) (names : Names) →
-    WithInputs told names (λ rules schema queries. Ends read write old new (rewriting names rules schema queries) s) → s ≤ 6
-rewritten_known told names h = one_known (rewriting names h.0 h.1 h.2) (rewriting_fine names h.0 h.1 h.2) h.4
+  pub rewritten_write : s ≡ 5 → write
+  rewritten_write e = h.4.write e
 
-pub discovered_known : {write : Type 0} {old new : Option (List ℕ)} {s : ℕ} (bounds : Bounds) (o : Outcome) → IsDiscovered bounds o → Ends ⊥ write old new o s → s ≤ 6
-discovered_known bounds o is ends = one_known o (discovered_fine bounds o is) ends
+  pub rewritten_prefix : (s ≡ 5) ⊎ (s ≡ 6) → WithInputs told names (λ rules schema queries. AppendsPrefix old new (rewriting names rules schema queries).text)
+  rewritten_prefix e = (h.0, h.1, h.2, h.3, h.4.prefix e)
+
+  pub rewritten_known : (s ≤ 6) × (s ≢ 1)
+  rewritten_known =
+      let fine : s ≢ 3 → s ≢ 5 → s ≢ 6 → Fine (Some s) = λ a b c. subst Fine (h.4.done a b c).0 (rewriting_fine names h.0 h.1 h.2) in
+      let few : s ≢ 3 → s ≢ 5 → s ≢ 6 → s ≤ 6 = λ a b c. (fine a b c).0 in
+      let other : s ≢ 3 → s ≢ 5 → s ≢ 6 → s ≢ 1 = λ a b c. (fine a b c).1 in
+      (grind (arith, few), λ one. other (λ e. omega arith) (λ e. omega arith) (λ e. omega arith) one)

@@ -9,9 +9,17 @@ use Rattle.wt_rule.specs.Texts.{head_line}
 use Rattle.wt_tool.specs.declared.stop.Stop.{Stop}
 use Rattle.wt_tool.specs.Outcomes.{Outcome, Stops}
 
+-- the rule file of the bounds
+abbrev pub IsFileOf : Bounds → List ℕ → Type 0
+IsFileOf b text = IsRuleFile b.steps b.depth (pairs_of b) text
+
+-- it was written
+abbrev pub WritesFile : Bounds → Option (List ℕ) → Option (List ℕ) → Type 0
+WritesFile b old new = (text : List ℕ) × IsFileOf b text × (new ≡ append_known old text)
+
 -- the whole file: the head, a line for each rule of each pair of the bounds in order, and the end
 abbrev pub IsWhole : Bounds → Outcome → Type 0
-IsWhole b o = IsRuleFile b.steps b.depth (pairs_of b) o.text × (o.status ≡ Some 0)
+IsWhole b o = IsFileOf b o.text × (o.status ≡ Some 0)
 
 -- the head and the lines of the rules of the first pairs: what a run may have come to that ends before the last pair
 abbrev pub IsPart : Bounds → Outcome → Type 0

@@ -15,10 +15,14 @@ pub record Outcome : Type 0 where
 abbrev pub AppendsPrefix : Option (List ℕ) → Option (List ℕ) → List ℕ → Type 0
 AppendsPrefix old new text = (n : ℕ) × (new ≡ append_known old (take n text))
 
+-- the status is the outcome's, and its text was written whole
+abbrev pub Writes : Option (List ℕ) → Option (List ℕ) → Outcome → ℕ → Type 0
+Writes old new o status = (o.status ≡ Some status) × (new ≡ append_known old o.text)
+
 -- How a command ended, by its status: 3 is a fault of a read, before which nothing was written; 5 a fault of a write; 6 want of
 -- memory; after these two a prefix of the text was written. Any other status is the outcome's, and the text was written whole.
 pub record Ends (read_rose write_rose : Type 0) (old new : Option (List ℕ)) (o : Outcome) (status : ℕ) : Type 0 where
-  pub done : status ≢ 3 → status ≢ 5 → status ≢ 6 → (o.status ≡ Some status) × (new ≡ append_known old o.text)
+  pub done : status ≢ 3 → status ≢ 5 → status ≢ 6 → Writes old new o status
   pub read : status ≡ 3 → read_rose × (new ≡ old)
   pub write : status ≡ 5 → write_rose
   pub prefix : (status ≡ 5) ⊎ (status ≡ 6) → AppendsPrefix old new o.text

@@ -7,6 +7,7 @@ mod pairs;
 mod proofs;
 mod rules;
 mod templates;
+mod words;
 
 ghost use Rattle.std.specs.Prelude.{IfOk, IfSome};
 ghost use Rattle.wt_symbol.specs.Lawful.{IsLawful};

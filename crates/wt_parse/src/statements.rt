@@ -3,6 +3,7 @@ ghost use Rattle.std.specs.Prelude.{◌≡◌, ◌<◌, ◌≤◌, ◌-◌, ◌+
 ghost use Rattle.std.specs.List.{All};
 ghost use Rattle.wt_grammar.specs.Statements as spec;
 ghost use Rattle.wt_ast.specs.Tree.{query_tree};
+ghost use Rattle.wt_ast.specs.Lawful.{IsLawful};
 ghost use Rattle.wt_ast.specs.Marks.{marks, places, same};
 ghost use Rattle.wt_parse.specs.Held.{kept, shown, Holds, NoOdd, Reads, Answers};
 
@@ -37,16 +38,19 @@ pub struct Queries<'a> {
 }
 
 impl<'a> Model for Queries<'a> {
-    ghost use Rattle.std.specs.Prelude.{map};
+    ghost use Rattle.std.specs.Prelude.{◌≡◌, map, Ok};
     ghost use Rattle.std.specs.List.{All};
-    ghost use Rattle.wt_grammar.specs.Statements.{File};
+    ghost use Rattle.wt_grammar.specs.Statements.{File, file_of};
     ghost use Rattle.wt_parse.specs.Held.{shown, Holds};
 
     ghost Value = { File };
 
     ghost view = { λ q. record { bytes = q.bytes.now; statements = map (shown q.tokens) q.pieces.items } };
 
-    ghost invariant = { λ q. All (Holds q.tokens) q.pieces.items };
+    ghost invariant = {
+        λ q. All (Holds q.tokens) q.pieces.items
+            × (file_of q.bytes.now ≡ Ok (record { bytes = q.bytes.now; statements = map (shown q.tokens) q.pieces.items }))
+    };
 }
 
 fn is_semicolon(kind: TokenKind) -> bool
@@ -129,9 +133,10 @@ impl<'a> Queries<'a> {
         begin_of(&self.tokens, self.pieces[n as usize])
     }
 
-    /// The query that the n-th statement is, from 0, or its first refusal.
+    /// The query that the n-th statement is, from 0, or its first refusal. Its tree is a lawful one.
     pub fn get(&self, alloc: Global, n: u32) -> Result<Query, QueryError>
         requires { n < length self.now.statements }
+        ensures lawful { IfOk result (λ q. IsLawful (query_tree q)) }
         ensures exact { (s : spec.Statement) → slice_get self.now.statements n ≡ Some s → Answers result (spec.answer self.now.bytes s) }
     {
         let piece = self.pieces[n as usize];
@@ -244,4 +249,11 @@ fn answer(alloc: Global, bytes: &[u8], tokens: &Tokens, piece: Piece) -> Result<
     no_odd(&ts)?;
     let (query, _) = statement(alloc, bytes, &ts, piece.end)?;
     limited(alloc, query)
+}
+
+fn may_be_shared<T: Send + Sync>() {}
+
+/// A statement to the compiler: threads may share the statements of a file, and hand them over.
+pub fn threads_share_queries() {
+    may_be_shared::<Queries>();
 }

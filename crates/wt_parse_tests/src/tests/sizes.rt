@@ -1,10 +1,10 @@
 //! Statements at their limits: of levels, of FROM items and conjuncts, and of bytes.
 
 use crate::tests::{put, refusal};
-use crate::{QueryError, QueryFault};
 use std::alloc::{AllocError, Global};
 use std::test::Fail;
 use std::thread::Builder;
+use wt_parse::{QueryError, QueryFault};
 
 // A text that is made of a front, an opening so many times, an inside, and a closing as many times.
 type Nested = (
@@ -236,7 +236,7 @@ type Repeated = (
     Option<QueryError>,
 );
 
-static REPEATED: [Repeated; 22] = [
+static REPEATED: [Repeated; 25] = [
     ("SELECT a FROM o", " JOIN o ON a=a", 255, "", None),
     (
         "SELECT a FROM o",
@@ -350,6 +350,21 @@ static REPEATED: [Repeated; 22] = [
         4500,
         "",
         Some(QueryError::Refused(QueryFault::TooMany, 3591)),
+    ),
+    ("SELECT a FROM o", ", o", 255, "", None),
+    (
+        "SELECT a FROM o",
+        ", o",
+        21_000,
+        "",
+        Some(QueryError::Refused(QueryFault::TooMany, 782)),
+    ),
+    (
+        "SELECT a FROM o, o RIGHT JOIN o ON a=a",
+        ", o",
+        253,
+        " LEFT JOIN o ON a=a",
+        Some(QueryError::Refused(QueryFault::TooMany, 808)),
     ),
     ("SELECT a FROM o WHERE a=1 ", "OR a=1 ", 9349, "", None),
     (

@@ -1,14 +1,15 @@
-//! What no clause says: that the definition is the one that was meant, on examples whose answers come from outside.
+//! Examples whose answers come from outside.
 
 mod files;
-mod refusals;
+mod joins;
+mod marks;
 mod sizes;
 mod trees;
 
-use crate::{QueryError, read_queries};
 use std::alloc::{AllocError, Global};
 use wt_ast::Query;
 use wt_lex::LexError;
+use wt_parse::{QueryError, read_queries};
 
 // What the n-th statement of a file is.
 fn nth(alloc: Global, bytes: &[u8], n: u32) -> Result<Query, QueryError> {

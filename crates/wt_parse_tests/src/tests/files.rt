@@ -1,9 +1,9 @@
 //! Files as lists of statements, and numbers at the ends of their range.
 
 use crate::tests::refusal;
-use crate::{QueryError, QueryFault, read_queries};
 use std::test::Fail;
 use wt_lex::LexFault;
+use wt_parse::{QueryError, QueryFault, read_queries};
 
 #[test]
 fn files_fall_into_statements(rt: HostRuntime) -> Result<(), Fail> {

@@ -9,9 +9,10 @@ use Rattle.wt_ast.specs.Tree.{query_tree}
 use Rattle.wt_ast.specs.Lawful.{IsLawful}
 use Rattle.wt_grammar.specs.Statements.{Statement, File, file_of, answer}
 use Rattle.wt_sentence.proofs.LawfulFiles.{statement_is_lawful}
-use Rattle.wt_parts.specs.declared.error.QueryError.{QueryError}
+use Rattle.wt_front.specs.declared.error.QueryError.{QueryError}
 use Rattle.wt_parse.specs.declared.statements.Piece.{Piece}
-use Rattle.wt_parse.specs.Held.{shown, Answers}
+use Rattle.wt_parse.specs.Held.{shown}
+use Rattle.wt_parse.specs.Outcomes.{Answers}
 
 pub lawful_got : (bytes : List ℕ) (tokens : List Token) (pieces : List Piece) (n : ℕ) (p : Piece) (r : Result Query QueryError)
     → file_of bytes ≡ Ok (record { bytes = bytes; statements = map (shown tokens) pieces }) → slice_get pieces n ≡ Some p → Answers r (answer bytes (shown tokens p)) → IfOk r (λ q. IsLawful (query_tree q))

@@ -5,7 +5,8 @@ ghost use Rattle.wt_grammar.specs.Statements as spec;
 ghost use Rattle.wt_ast.specs.Tree.{query_tree};
 ghost use Rattle.wt_ast.specs.Lawful.{IsLawful};
 ghost use Rattle.wt_ast.specs.Marks.{marks, places, same};
-ghost use Rattle.wt_parse.specs.Held.{kept, shown, Holds, NoOdd, Reads, Answers};
+ghost use Rattle.wt_parse.specs.Held.{kept, shown, Holds, NoOdd, Bars};
+ghost use Rattle.wt_parse.specs.Outcomes.{Reads, Answers};
 
 use crate::queries::statement;
 use std::alloc::Global;
@@ -13,8 +14,8 @@ use std::marker::Model;
 use wt_ast::{Mark, Marked, Query};
 use wt_grammar::QueryFault;
 use wt_lex::{LexError, Sym, Token, TokenKind, Tokens, lex};
-use wt_parts::QueryError;
-use wt_parts::lexemes::lexemes;
+use wt_front::QueryError;
+use wt_front::lexemes::lexemes;
 use wt_reading::Lexeme;
 use wt_value::WantOfMemory;
 
@@ -210,20 +211,26 @@ fn barred(marks: &[Mark]) -> Option<(QueryFault, u32)>
     }
 }
 
-fn limits(alloc: Global, query: &Query) -> Result<Option<(QueryFault, u32)>, WantOfMemory>
-    ensures { IfOk result (λ b. b ≡ spec.barred (marks (query_tree query.now))) }
+// Why a query that was read is not given: it is barred, or memory ran out.
+fn limits(alloc: Global, query: &Query) -> Option<QueryError>
+    ensures { Bars result (spec.barred (marks (query_tree query.now))) }
 {
-    let marks = query.marks(alloc)?;
-    Ok(barred(marks.as_slice()))
+    match query.marks(alloc) {
+        Err(_) => Some(QueryError::Memory),
+        Ok(marks) => match barred(marks.as_slice()) {
+            Some((fault, at)) => Some(QueryError::Refused(fault, at)),
+            None => None,
+        },
+    }
 }
 
 // A query that was read, unless it is barred.
 fn limited(alloc: Global, query: Query) -> Result<Query, QueryError>
     ensures { Answers result (spec.unless (spec.barred (marks (query_tree query))) (query_tree query)) }
 {
-    match limits(alloc, &query)? {
+    match limits(alloc, &query) {
         None => Ok(query),
-        Some((fault, at)) => Err(QueryError::Refused(fault, at)),
+        Some(error) => Err(error),
     }
 }
 

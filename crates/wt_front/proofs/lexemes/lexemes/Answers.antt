@@ -2,8 +2,8 @@ use Rattle.std.proofs.Common.{◌≡◌, ◌∙◌, ◌-◌, ◌∷◌, [], ◌+
 use Rattle.std.specs.Prelude.{map}
 use Rattle.std.proofs.lemmas.List.{map-append}
 use Rattle.wt_reading.specs.Lexemes as spec
-use Rattle.wt_parts.proofs.More.{slice_more}
-use Rattle.wt_parts.proofs.lexemes.lexemes.Goals as goal
+use Rattle.wt_front.proofs.More.{slice_more}
+use Rattle.wt_front.proofs.lexemes.lexemes.Goals as goal
 
 pub loop-i-preserved : goal.loop-i-preserved
 loop-i-preserved c =

@@ -16,7 +16,7 @@ pub enum QueryError {
 
 impl From<AllocError> for QueryError {
     ghost use Rattle.std.specs.Prelude.{◌≡◌};
-    ghost use Rattle.wt_parts.specs.declared.error.QueryError.TheVariants.{Memory};
+    ghost use Rattle.wt_front.specs.declared.error.QueryError.TheVariants.{Memory};
 
     ghost from_gives = { λ _ e. e ≡ Memory };
 
@@ -27,7 +27,7 @@ impl From<AllocError> for QueryError {
 
 impl<T: Drop> From<AllocFailed<T>> for QueryError {
     ghost use Rattle.std.specs.Prelude.{◌≡◌};
-    ghost use Rattle.wt_parts.specs.declared.error.QueryError.TheVariants.{Memory};
+    ghost use Rattle.wt_front.specs.declared.error.QueryError.TheVariants.{Memory};
 
     ghost from_gives = { λ _ e. e ≡ Memory };
 

@@ -7,8 +7,8 @@ use Rattle.wt_lex.specs.declared.words.Word.{Word}
 use Rattle.wt_lex.specs.declared.words.Word.TheVariants as word
 use Rattle.wt_grammar.specs.Kinds.{is_and, is_or}
 use Rattle.wt_grammar.specs.Reading.{Read, refused, odd}
-use Rattle.wt_parts.specs.declared.error.QueryError.{QueryError}
-use Rattle.wt_parts.specs.declared.error.QueryError.TheVariants as errors
+use Rattle.wt_front.specs.declared.error.QueryError.{QueryError}
+use Rattle.wt_front.specs.declared.error.QueryError.TheVariants as errors
 
 -- the same refusal, unless memory ran out
 abbrev pub Fails : {A : Type 0} → QueryError → Read A → Type 0

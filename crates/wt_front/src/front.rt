@@ -4,7 +4,7 @@ ghost use Rattle.wt_reading.specs.Lexemes as spec;
 ghost use Rattle.wt_grammar.specs.Kinds as kinds;
 ghost use Rattle.wt_grammar.specs.Refusals as tables;
 ghost use Rattle.wt_grammar.specs.Reading as reading;
-ghost use Rattle.wt_parts.specs.Giving.{Gives};
+ghost use Rattle.wt_front.specs.Giving.{Gives};
 
 use crate::error::QueryError;
 use wt_ast::CmpWord;

@@ -14,9 +14,9 @@ use Rattle.wt_reading.specs.declared.lexeme.Lexeme.{Lexeme}
 use Rattle.wt_reading.specs.Lexemes.{Tokens, kind, at}
 use Rattle.wt_reading.specs.Readings.{more, joined_to, plus, followed}
 use Rattle.wt_grammar.specs.Reading.{Read, Refusal, refused, odd, Nest, run, one_or}
-use Rattle.wt_parts.specs.declared.error.QueryError.{QueryError}
-use Rattle.wt_parts.specs.declared.error.QueryError.TheVariants as errors
-use Rattle.wt_parts.specs.Giving.{Gives, Fails, Adds}
+use Rattle.wt_front.specs.declared.error.QueryError.{QueryError}
+use Rattle.wt_front.specs.declared.error.QueryError.TheVariants as errors
+use Rattle.wt_front.specs.Giving.{Gives, Fails, Adds}
 
 by_error : {X A : Type 0} (view : X → A) (e : QueryError) (old new : List A) (B : Type 0) (read : Read A) (r : Read (List A))
     → Gives {X = X} view (Err e) read → ((f : Refusal × ℕ) → read ≡ Err f → r ≡ Err f) → Fails e r

@@ -4,7 +4,7 @@ use Rattle.std.specs.Prelude.{map, filter, slice_get}
 use Rattle.std.proofs.lemmas.List.{take_more, map-append}
 use Rattle.std.proofs.lemmas.Option.{slice_get_within, get_or_from_slice_get}
 use Rattle.wt_lex.specs.declared.token.Token.{Token}
-use Rattle.wt_parts.proofs.More.{slice_more}
+use Rattle.wt_front.proofs.More.{slice_more}
 use Rattle.wt_parse.specs.declared.statements.Piece.{Piece}
 use Rattle.wt_parse.specs.Held.{piece, kept, shown, Holds}
 use Rattle.std.specs.List.{All}

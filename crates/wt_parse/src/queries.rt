@@ -6,22 +6,22 @@ ghost use Rattle.wt_grammar.specs.Kinds.{is_and, is_or, begins_join};
 ghost use Rattle.wt_reading.specs.Lexemes.{is_comma};
 ghost use Rattle.wt_grammar.specs.Reading as spec;
 ghost use Rattle.wt_reading.specs.Readings as readings;
-ghost use Rattle.wt_parts.specs.Giving.{Gives, Adds, is_joint};
+ghost use Rattle.wt_front.specs.Giving.{Gives, Adds, is_joint};
 
 use std::alloc::Global;
-use wt_ast::{ColumnName, ColumnNames, CondKind, Condition, FromPart, Items, Query, Scalar};
+use wt_ast::{ColumnName, ColumnNames, CondKind, Condition, FromPart, Item, Items, Query, Scalar};
 use wt_grammar::QueryFault;
 use wt_lex::Word;
-use wt_parts::QueryError;
+use wt_front::QueryError;
 use wt_parts::comparisons::{
     after_not, all_or_one, any_or_one, between, compared, is_part, negation, values,
 };
-use wt_parts::front::{
+use wt_front::front::{
     after, at_and, at_between, at_close, at_comma, at_end, at_from, at_in, at_is, at_join_words,
     at_name, at_not, at_on, at_open, at_or, at_select, at_where, expect, kind, no, no_end, no_join,
     no_join_or_end, no_statement, place,
 };
-use wt_parts::lists::{items, listed_columns};
+use wt_parts::lists::{list, listed};
 use wt_parts::parts::operand;
 use wt_parts::sources::{
     derived_columns, derived_from, derived_name, join_words, joined_from, listed_from, opens_tuple,
@@ -283,7 +283,7 @@ fn tuple_in(
     ensures exact { Gives condition_tree result (spec.tuple_in end bytes.now (spec.nest end bytes.now levels) ts.now) }
     ensures within { IfOk result (λ x. x.1 ≤ length ts.now) }
 {
-    let (columns, n) = listed_columns(alloc, bytes, ts, end, levels)?;
+    let (columns, n) = listed::<ColumnName>(alloc, bytes, ts, end, levels)?;
     let (c, m) = after_tuple(
         alloc,
         bytes,
@@ -381,7 +381,7 @@ fn body(
 {
     let (distinct, d) = quantifier(ts);
     let rest = after(ts, d);
-    let (items, n) = items(alloc, bytes, rest, end)?;
+    let (items, n) = list::<Item>(alloc, bytes, rest, end)?;
     let rest = after(rest, n);
     let (_, f) = expect(at_from(rest), QueryFault::Syntax, rest, end)?;
     let rest = after(rest, f);

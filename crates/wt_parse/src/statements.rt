@@ -3,8 +3,10 @@ ghost use Rattle.std.specs.Prelude.{◌≡◌, ◌<◌, ◌≤◌, ◌-◌, ◌+
 ghost use Rattle.std.specs.List.{All};
 ghost use Rattle.wt_grammar.specs.Statements as spec;
 ghost use Rattle.wt_ast.specs.Tree.{query_tree};
+ghost use Rattle.wt_ast.specs.Lawful.{IsLawful};
 ghost use Rattle.wt_ast.specs.Marks.{marks, places, same};
-ghost use Rattle.wt_parse.specs.Held.{kept, shown, Holds, NoOdd, Reads, Answers};
+ghost use Rattle.wt_parse.specs.Held.{kept, shown, Holds, NoOdd, Bars};
+ghost use Rattle.wt_parse.specs.Outcomes.{Reads, Answers};
 
 use crate::queries::statement;
 use std::alloc::Global;
@@ -12,8 +14,8 @@ use std::marker::Model;
 use wt_ast::{Mark, Marked, Query};
 use wt_grammar::QueryFault;
 use wt_lex::{LexError, Sym, Token, TokenKind, Tokens, lex};
-use wt_parts::QueryError;
-use wt_parts::lexemes::lexemes;
+use wt_front::QueryError;
+use wt_front::lexemes::lexemes;
 use wt_reading::Lexeme;
 use wt_value::WantOfMemory;
 
@@ -37,16 +39,19 @@ pub struct Queries<'a> {
 }
 
 impl<'a> Model for Queries<'a> {
-    ghost use Rattle.std.specs.Prelude.{map};
+    ghost use Rattle.std.specs.Prelude.{◌≡◌, map, Ok};
     ghost use Rattle.std.specs.List.{All};
-    ghost use Rattle.wt_grammar.specs.Statements.{File};
+    ghost use Rattle.wt_grammar.specs.Statements.{File, file_of};
     ghost use Rattle.wt_parse.specs.Held.{shown, Holds};
 
     ghost Value = { File };
 
     ghost view = { λ q. record { bytes = q.bytes.now; statements = map (shown q.tokens) q.pieces.items } };
 
-    ghost invariant = { λ q. All (Holds q.tokens) q.pieces.items };
+    ghost invariant = {
+        λ q. All (Holds q.tokens) q.pieces.items
+            × (file_of q.bytes.now ≡ Ok (record { bytes = q.bytes.now; statements = map (shown q.tokens) q.pieces.items }))
+    };
 }
 
 fn is_semicolon(kind: TokenKind) -> bool
@@ -129,9 +134,10 @@ impl<'a> Queries<'a> {
         begin_of(&self.tokens, self.pieces[n as usize])
     }
 
-    /// The query that the n-th statement is, from 0, or its first refusal.
+    /// The query that the n-th statement is, from 0, or its first refusal. Its tree is a lawful one.
     pub fn get(&self, alloc: Global, n: u32) -> Result<Query, QueryError>
         requires { n < length self.now.statements }
+        ensures lawful { IfOk result (λ q. IsLawful (query_tree q)) }
         ensures exact { (s : spec.Statement) → slice_get self.now.statements n ≡ Some s → Answers result (spec.answer self.now.bytes s) }
     {
         let piece = self.pieces[n as usize];
@@ -205,20 +211,26 @@ fn barred(marks: &[Mark]) -> Option<(QueryFault, u32)>
     }
 }
 
-fn limits(alloc: Global, query: &Query) -> Result<Option<(QueryFault, u32)>, WantOfMemory>
-    ensures { IfOk result (λ b. b ≡ spec.barred (marks (query_tree query.now))) }
+// Why a query that was read is not given: it is barred, or memory ran out.
+fn limits(alloc: Global, query: &Query) -> Option<QueryError>
+    ensures { Bars result (spec.barred (marks (query_tree query.now))) }
 {
-    let marks = query.marks(alloc)?;
-    Ok(barred(marks.as_slice()))
+    match query.marks(alloc) {
+        Err(_) => Some(QueryError::Memory),
+        Ok(marks) => match barred(marks.as_slice()) {
+            Some((fault, at)) => Some(QueryError::Refused(fault, at)),
+            None => None,
+        },
+    }
 }
 
 // A query that was read, unless it is barred.
 fn limited(alloc: Global, query: Query) -> Result<Query, QueryError>
     ensures { Answers result (spec.unless (spec.barred (marks (query_tree query))) (query_tree query)) }
 {
-    match limits(alloc, &query)? {
+    match limits(alloc, &query) {
         None => Ok(query),
-        Some((fault, at)) => Err(QueryError::Refused(fault, at)),
+        Some(error) => Err(error),
     }
 }
 
@@ -244,4 +256,11 @@ fn answer(alloc: Global, bytes: &[u8], tokens: &Tokens, piece: Piece) -> Result<
     no_odd(&ts)?;
     let (query, _) = statement(alloc, bytes, &ts, piece.end)?;
     limited(alloc, query)
+}
+
+fn may_be_shared<T: Send + Sync>() {}
+
+/// A statement to the compiler: threads may share the statements of a file, and hand them over.
+pub fn threads_share_queries() {
+    may_be_shared::<Queries>();
 }

@@ -1,4 +1,3 @@
-pub mod More
 pub mod Nesting
 pub mod Sizes
 pub mod Views

@@ -6,7 +6,7 @@ use Rattle.wt_reading.specs.Readings.{Reading, plus, followed, joined_to, more, 
 use Rattle.wt_reading.proofs.Loops.{more_goes, more_fails, more_stops}
 use Rattle.wt_grammar.specs.Reading.{closes_tuple, in_follows}
 use Rattle.std.specs.Prelude.{◌&&◌}
-use Rattle.wt_parts.specs.Giving.{size_of}
+use Rattle.wt_front.specs.Giving.{size_of}
 
 -- so many tokens in front
 abbrev pub behind : ℕ → Option ℕ → Option ℕ

@@ -1,22 +1,22 @@
 //! What follows the first operand of a condition, as far as it holds no query. `at` is where the condition begins.
-ghost use Rattle.std.specs.Prelude.{◌≡◌, ◌<◌, ◌≤◌, ◌+◌, ℕ, List, length, drop, map, IfOk};
-ghost use Rattle.wt_ast.specs.Tree.{condition_tree, condition_trees, all_of, any_of, negated};
+ghost use Rattle.std.specs.Prelude.{◌≡◌, ◌<◌, ◌≤◌, ◌+◌, ℕ, List, [], ◌∷◌, length, drop, map, IfOk};
+ghost use Rattle.wt_ast.specs.Tree.{condition_tree, condition_trees, all_of, any_of, negated, compare};
 ghost use Rattle.wt_reading.specs.Lexemes as lexemes;
 ghost use Rattle.wt_grammar.specs.Reading as spec;
-ghost use Rattle.wt_parts.specs.Giving.{Gives};
+ghost use Rattle.wt_front.specs.Giving.{Gives};
 
-use crate::error::QueryError;
-use crate::front::{
+use wt_front::QueryError;
+use wt_front::front::{
     after, at_and, at_between, at_in, at_not, at_null, at_open, at_select, cmp_of, expect, kind,
     no, no_negated, place,
 };
-use crate::lists::listed_literals;
+use crate::lists::listed;
 use crate::parts::operand;
 use std::alloc::Global;
 use wt_ast::{CmpWord, ColumnName, CondKind, Condition, Conditions, Scalar};
 use wt_grammar::QueryFault;
 use wt_reading::Lexeme;
-use wt_value::{Values, WantOfMemory};
+use wt_value::{Value, Values, WantOfMemory};
 
 fn and_of(alloc: Global, at: u32, parts: Vec<Condition>) -> Result<Condition, WantOfMemory>
     ensures { IfOk result (λ c. condition_tree c ≡ all_of at (condition_trees parts.items)) }
@@ -71,6 +71,24 @@ pub fn negation(alloc: Global, at: u32, inner: Condition) -> Result<Condition, W
     Ok(Condition { at, kind })
 }
 
+fn comparison(at: u32, word: CmpWord, a: Scalar, b: Scalar, word_at: u32) -> Condition
+    ensures { condition_tree result ≡ compare at word a b word_at }
+{
+    Condition {
+        at,
+        kind: CondKind::Compare(word, a, b, word_at),
+    }
+}
+
+fn and_of_two(alloc: Global, at: u32, one: Condition, other: Condition) -> Result<Condition, WantOfMemory>
+    ensures { IfOk result (λ c. condition_tree c ≡ all_of at (condition_trees (one ∷ other ∷ []))) }
+{
+    let mut parts = Vec::new(alloc);
+    parts.push(one)?;
+    parts.push(other)?;
+    and_of(alloc, at, parts)
+}
+
 // `a BETWEEN low AND high`, which is the And of `a >= low` and `a <= high`.
 fn between_of(
     alloc: Global,
@@ -82,12 +100,9 @@ fn between_of(
 ) -> Result<Condition, WantOfMemory>
     ensures { IfOk result (λ c. condition_tree c ≡ spec.between_of at a low high word) }
 {
-    let above = CondKind::Compare(CmpWord::Ge, a.clone()?, low, word);
-    let below = CondKind::Compare(CmpWord::Le, a, high, word);
-    let mut parts = Vec::new(alloc);
-    parts.push(Condition { at, kind: above })?;
-    parts.push(Condition { at, kind: below })?;
-    and_of(alloc, at, parts)
+    let above = comparison(at, CmpWord::Ge, a.clone()?, low, word);
+    let below = comparison(at, CmpWord::Le, a, high, word);
+    and_of_two(alloc, at, above, below)
 }
 
 /// Behind BETWEEN.
@@ -150,7 +165,7 @@ pub fn values(
     ensures exact { Gives condition_tree result (spec.values end bytes.now (spec.nest end bytes.now levels) at column word ts.now) }
     ensures within { IfOk result (λ x. x.1 ≤ length ts.now) }
 {
-    let (values, n) = listed_literals(alloc, bytes, ts, end, levels)?;
+    let (values, n) = listed::<Value>(alloc, bytes, ts, end, levels)?;
     let kind = CondKind::InList(column, Values::from_vec(values), word);
     Ok((Condition { at, kind }, n))
 }

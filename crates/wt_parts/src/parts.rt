@@ -2,10 +2,10 @@
 ghost use Rattle.std.specs.Prelude.{◌≡◌, ◌<◌, ◌≤◌, ◌+◌, ◌^◌, ◌-◌, length, drop, IfOk, neg_ℤ, pos};
 ghost use Rattle.wt_reading.specs.Lexemes.{place, is_comma, kind};
 ghost use Rattle.wt_grammar.specs.Reading as spec;
-ghost use Rattle.wt_parts.specs.Giving.{Gives, Adds};
+ghost use Rattle.wt_front.specs.Giving.{Gives, Adds};
 
-use crate::error::QueryError;
-use crate::front::{
+use wt_front::QueryError;
+use wt_front::front::{
     after, at_as, at_close, at_comma, at_dot, at_name, at_open, at_star, beyond, expect, kind, no,
     no_item, no_literal, no_operand, place,
 };

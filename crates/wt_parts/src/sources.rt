@@ -5,14 +5,14 @@ ghost use Rattle.wt_reading.specs.Lexemes as lexemes;
 ghost use Rattle.wt_grammar.specs.Reading as spec;
 ghost use Rattle.wt_reading.specs.Readings as readings;
 ghost use Rattle.wt_ast.specs.Tree.{condition_tree, query_tree, derived, comma};
-ghost use Rattle.wt_parts.specs.Giving.{Gives, size_of};
+ghost use Rattle.wt_front.specs.Giving.{Gives, size_of};
 
-use crate::error::QueryError;
-use crate::front::{
+use wt_front::QueryError;
+use wt_front::front::{
     after, at_all, at_as, at_close, at_comma, at_distinct, at_dot, at_in, at_inner, at_join,
     at_left, at_name, at_not, at_open, at_outer, expect, no, place,
 };
-use crate::lists::listed_names;
+use crate::lists::listed;
 use crate::parts::{alias, name, name_at, name_only};
 use std::alloc::Global;
 use wt_ast::{Condition, FromPart, Query};
@@ -119,7 +119,7 @@ pub fn derived_columns(
     if !at_open(ts) {
         return Ok((None, 0));
     }
-    let (names, n) = listed_names(alloc, bytes, ts, end, levels)?;
+    let (names, n) = listed::<Name>(alloc, bytes, ts, end, levels)?;
     Ok((Some(Names::from_vec(names)), n))
 }
 
@@ -212,6 +212,49 @@ pub fn quantifier(ts: &[Lexeme]) -> (bool, usize)
     }
 }
 
+fn boxed(
+    alloc: Global,
+    left: FromPart,
+    right: FromPart,
+) -> Result<(Box<FromPart>, Box<FromPart>), WantOfMemory>
+    ensures left { IfOk result (λ b. b.0.value ≡ left) }
+    ensures right { IfOk result (λ b. b.1.value ≡ right) }
+{
+    let left = Box::new(alloc, left)?;
+    Ok((left, Box::new(alloc, right)?))
+}
+
+fn join_by(
+    kind: JoinKind,
+    left: Box<FromPart>,
+    right: Box<FromPart>,
+    on: Condition,
+    on_at: u32,
+) -> FromPart
+    ensures { from_tree result ≡ spec.join_of kind (from_tree left.value) (from_tree right.value) (condition_tree on) on_at }
+{
+    match kind {
+        JoinKind::Inner => FromPart::Inner {
+            left,
+            right,
+            on,
+            on_at,
+        },
+        JoinKind::Left => FromPart::Left {
+            left,
+            right,
+            on,
+            on_at,
+        },
+        JoinKind::Right => FromPart::Right {
+            left,
+            right,
+            on,
+            on_at,
+        },
+    }
+}
+
 /// Two FROM items joined as the words say.
 pub fn joined_from(
     alloc: Global,
@@ -223,27 +266,8 @@ pub fn joined_from(
 ) -> Result<FromPart, WantOfMemory>
     ensures { IfOk result (λ f. from_tree f ≡ spec.join_of kind (from_tree left) (from_tree right) (condition_tree on) on_at) }
 {
-    let (left, right) = (Box::new(alloc, left)?, Box::new(alloc, right)?);
-    match kind {
-        JoinKind::Inner => Ok(FromPart::Inner {
-            left,
-            right,
-            on,
-            on_at,
-        }),
-        JoinKind::Left => Ok(FromPart::Left {
-            left,
-            right,
-            on,
-            on_at,
-        }),
-        JoinKind::Right => Ok(FromPart::Right {
-            left,
-            right,
-            on,
-            on_at,
-        }),
-    }
+    let (left, right) = boxed(alloc, left, right)?;
+    Ok(join_by(kind, left, right, on, on_at))
 }
 
 /// A list with commas and the item behind its next comma.
@@ -255,7 +279,7 @@ pub fn listed_from(
 ) -> Result<FromPart, WantOfMemory>
     ensures { IfOk result (λ f. from_tree f ≡ comma (from_tree left) (from_tree right) comma_at) }
 {
-    let (left, right) = (Box::new(alloc, left)?, Box::new(alloc, right)?);
+    let (left, right) = boxed(alloc, left, right)?;
     Ok(FromPart::Comma {
         left,
         right,

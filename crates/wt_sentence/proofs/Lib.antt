@@ -9,3 +9,5 @@ pub mod Tuples
 pub mod CompleteParts
 pub mod CompleteQueries
 pub mod Complete
+pub mod Forming
+pub mod LawfulFiles

@@ -8,7 +8,7 @@ use Rattle.wt_grammar.specs.Kinds.{begins_join, is_and, is_or}
 use Rattle.wt_grammar.specs.Reading as spec
 use Rattle.wt_reading.specs.Readings as readings
 use Rattle.wt_reading.proofs.Loops.{loop_goes, loop_fails, loop_stops, put_err, map_push, turn_goes, turn_fails, turn_stops}
-use Rattle.wt_parts.proofs.More.{exit, gives_exit, there}
+use Rattle.wt_front.proofs.More.{exit, gives_exit, there}
 use Rattle.wt_parse.proofs.queries.+read.Goals as goal
 
 pub more_conj-returns-in_err-part-clause-exact : goal.more_conj-returns-in_err-part-clause-exact

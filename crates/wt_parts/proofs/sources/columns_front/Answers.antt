@@ -2,7 +2,7 @@ use Rattle.std.proofs.Common.{◌∙◌, ◌+◌, sym, ap, arith, length, drop, 
 use Rattle.wt_reading.specs.Lexemes.{is_comma, kind}
 use Rattle.wt_reading.specs.Readings.{list}
 use Rattle.wt_grammar.specs.Reading.{column_front}
-use Rattle.wt_parts.specs.Giving.{size_of}
+use Rattle.wt_front.specs.Giving.{size_of}
 use Rattle.wt_parts.proofs.Sizes.{first_fails, first_goes, next_goes, next_fails, next_stops}
 use Rattle.wt_parts.proofs.sources.columns_front.Goals as goal
 

@@ -2,7 +2,7 @@ use Rattle.std.proofs.Common.{◌≡◌, ◌-◌, ◌≤◌, length, drop}
 use Rattle.wt_reading.specs.Lexemes.{is_comma}
 use Rattle.wt_reading.specs.Readings.{more, list}
 use Rattle.wt_grammar.specs.Reading.{column_front}
-use Rattle.wt_parts.specs.Giving.{size_of}
+use Rattle.wt_front.specs.Giving.{size_of}
 use Rattle.wt_parts.proofs.Sizes.{behind}
 use Rattle.wt_parts.proofs.sources.columns_front.Given as goal
 

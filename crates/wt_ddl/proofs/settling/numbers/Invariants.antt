@@ -1,6 +1,6 @@
 use Rattle.std.proofs.Common.{◌≡◌, ◌-◌, ◌≤◌, length, drop, []}
 use Rattle.wt_ddl.specs.Settling.{in_turn, list_one}
-use Rattle.wt_ddl.proofs.settling.listed.Given as goal
+use Rattle.wt_ddl.proofs.settling.numbers.Given as goal
 
 abbrev pub invariant-names : goal.invariant-names
 invariant-names l = record {

@@ -10,8 +10,7 @@ use Rattle.wt_pair.specs.declared.bounds.Bounds.{Bounds}
 use Rattle.wt_tool.specs.Discovering.{IsDiscovered}
 use Rattle.wt_tool.specs.Outcomes.{AppendsPrefix, Ends, Outcome, Writes}
 use Rattle.wt_ddl.specs.Schemas.{schema_of}
-use Rattle.wt_ddl.specs.declared.fault.DdlError.{DdlError}
-use Rattle.wt_ddl.specs.declared.fault.DdlError.TheVariants as ddl
+use Rattle.wt_ddl.specs.Refusals as ddl
 use Rattle.wt_grammar.specs.Statements.{File, file_of}
 use Rattle.wt_lex.specs.declared.token.LexFault.{LexFault}
 use Rattle.wt_schema.specs.declared.schema.Table.{Table}
@@ -63,11 +62,10 @@ queries_fine : (names : Names) (tables : List Table) (queries : Input) → Fine 
 queries_fine names tables (Whole bytes) = file_fine names tables (file_of bytes)
 queries_fine names tables TooLong = two_fine
 
-schema_fine : (names : Names) (queries : Input) (read : Result (List Table) DdlError) → Fine (with_schema names queries read).status
+schema_fine : (names : Names) (queries : Input) (read : ddl.Checked (List Table)) → Fine (with_schema names queries read).status
 schema_fine names queries (Ok tables) = queries_fine names tables queries
-schema_fine names queries (Err (ddl.Fault fault at)) = two_fine
-schema_fine names queries (Err (ddl.Lex fault at)) = two_fine
-schema_fine names queries (Err ddl.Memory) = two_fine
+schema_fine names queries (Err (ddl.refused fault, at)) = two_fine
+schema_fine names queries (Err (ddl.odd fault, at)) = two_fine
 
 rules_fine : (names : Names) (schema queries : Input) → Fine (with_rules names schema queries).status
 rules_fine names (Whole bytes) queries = schema_fine names queries (schema_of bytes)

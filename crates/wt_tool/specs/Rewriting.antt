@@ -7,8 +7,7 @@ use Rattle.std.specs.Str.{bytes_eq}
 use Rattle.std.specs.declared.option.Option.{Option}
 use Rattle.wt_ast.specs.Tree.{QueryTree}
 use Rattle.wt_ddl.specs.Schemas.{schema_of}
-use Rattle.wt_ddl.specs.declared.fault.DdlError.{DdlError}
-use Rattle.wt_ddl.specs.declared.fault.DdlError.TheVariants as ddl
+use Rattle.wt_ddl.specs.Refusals as ddl
 use Rattle.wt_grammar.specs.Reading.{Refusal, refused, odd}
 use Rattle.wt_grammar.specs.Statements.{File, Statement, Answer, answer, begin, file_of}
 use Rattle.wt_lex.specs.declared.token.LexFault.{LexFault}
@@ -98,11 +97,10 @@ abbrev pub with_queries : Names → List Table → Input → Outcome
 with_queries names tables (Whole bytes) = with_file names tables (file_of bytes)
 with_queries names tables TooLong = too_long names.queries
 
-abbrev pub with_schema : Names → Input → Result (List Table) DdlError → Outcome
+abbrev pub with_schema : Names → Input → ddl.Checked (List Table) → Outcome
 with_schema names queries (Ok tables) = with_queries names tables queries
-with_schema names queries (Err (ddl.Fault fault at)) = fault_at names.schema at (schema_name fault)
-with_schema names queries (Err (ddl.Lex fault at)) = fault_at names.schema at (lexical_name fault)
-with_schema names queries (Err ddl.Memory) = too_long names.schema
+with_schema names queries (Err (ddl.refused fault, at)) = fault_at names.schema at (schema_name fault)
+with_schema names queries (Err (ddl.odd fault, at)) = fault_at names.schema at (lexical_name fault)
 
 abbrev pub with_rules : Names → Input → Input → Outcome
 with_rules names (Whole bytes) queries = with_schema names queries (schema_of bytes)

@@ -2,17 +2,14 @@
 use Rattle.std.proofs.lemmas.List.{take_more}
 use Rattle.std.proofs.lemmas.Option.{slice_get_within, get_or_from_slice_get}
 use Rattle.std.specs.Prelude.{slice_get}
-use Rattle.std.proofs.Common.{Some, take, length, ◌≡◌, ℕ, suc, zero, ◌+◌, ◌-◌, ◌≤◌, Bool, true, false, List, [], ◌∷◌, ◌++◌, drop, refl, ap, sym, ◌∙◌, arith, append_assoc, add-zero, append-nil, Result, Ok, Err, add-one}
-use Rattle.std.specs.Prelude.{map}
-use Rattle.std.proofs.lemmas.List.{drop-drop}
+use Rattle.std.proofs.Common.{Some, take, length, ◌≡◌, ℕ, suc, zero, ◌+◌, ◌-◌, ◌≤◌, Bool, true, false, List, [], ◌∷◌, ◌++◌, drop, ap, ◌∙◌, arith, add-zero, Result, Ok, Err}
 use Rattle.std.specs.Result.{IsErrAnd}
 use Rattle.std.proofs.lemmas.Result.{err_from_is_err_and}
 use Rattle.wt_ast.specs.Tree.{CondTree, CondTrees}
 use Rattle.wt_reading.specs.declared.lexeme.Kind.{Kind}
 use Rattle.wt_reading.specs.declared.lexeme.Kind.TheVariants.{End}
-use Rattle.wt_reading.specs.declared.lexeme.Lexeme.{Lexeme}
-use Rattle.wt_reading.specs.Lexemes.{Tokens, kind, at}
-use Rattle.wt_reading.specs.Readings.{more, joined_to, plus, followed}
+use Rattle.wt_reading.specs.Lexemes.{Tokens, at}
+use Rattle.wt_reading.specs.Readings.{more, plus, followed}
 use Rattle.wt_grammar.specs.Reading.{Read, Refusal, refused, odd, Nest, run, one_or}
 use Rattle.wt_front.specs.declared.error.QueryError.{QueryError}
 use Rattle.wt_front.specs.declared.error.QueryError.TheVariants as errors

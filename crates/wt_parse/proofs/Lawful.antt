@@ -1,5 +1,5 @@
 -- What the reader gives for a statement of a file is a lawful tree.
-use Rattle.std.proofs.Common.{◌≡◌, ℕ, ◌<◌, List, length, refl, ap, sym, ◌∙◌, arith, Option, Some, Ok, Err, Result}
+use Rattle.std.proofs.Common.{◌≡◌, ℕ, List, ap, ◌∙◌, Some, Ok, Err, Result}
 use Rattle.std.specs.Prelude.{map, slice_get, IfOk}
 use Rattle.std.specs.Option.{option_map}
 use Rattle.std.proofs.lemmas.Option.{slice_get-map}
@@ -7,7 +7,7 @@ use Rattle.wt_lex.specs.declared.token.Token.{Token}
 use Rattle.wt_ast.specs.declared.tree.Query.{Query}
 use Rattle.wt_ast.specs.Tree.{query_tree}
 use Rattle.wt_ast.specs.Lawful.{IsLawful}
-use Rattle.wt_grammar.specs.Statements.{Statement, File, file_of, answer}
+use Rattle.wt_grammar.specs.Statements.{file_of, answer}
 use Rattle.wt_sentence.proofs.LawfulFiles.{statement_is_lawful}
 use Rattle.wt_front.specs.declared.error.QueryError.{QueryError}
 use Rattle.wt_parse.specs.declared.statements.Piece.{Piece}

@@ -1,8 +1,7 @@
 -- Pieces of a list that grow by one, and the statements that they are.
 use Rattle.std.proofs.Common.{◌≡◌, ℕ, suc, zero, ◌+◌, ◌-◌, ◌<◌, ◌≤◌, Bool, true, false, List, [], ◌∷◌, ◌++◌, length, take, drop, refl, ap, sym, ◌∙◌, arith, append_assoc, append-nil, Some, subst, nat_lt, ◌==◌, length-drop, eq-eqb, Ok}
 use Rattle.std.specs.Prelude.{map, filter, slice_get}
-use Rattle.std.proofs.lemmas.List.{take_more, map-append}
-use Rattle.std.proofs.lemmas.Option.{slice_get_within, get_or_from_slice_get}
+use Rattle.std.proofs.lemmas.List.{map-append}
 use Rattle.wt_lex.specs.declared.token.Token.{Token}
 use Rattle.wt_front.proofs.More.{slice_more}
 use Rattle.wt_parse.specs.declared.statements.Piece.{Piece}

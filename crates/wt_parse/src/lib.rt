@@ -4,6 +4,6 @@
 mod queries;
 mod statements;
 
-pub use wt_front::QueryError;
 pub use statements::{Queries, read_queries, threads_share_queries};
+pub use wt_front::QueryError;
 pub use wt_grammar::QueryFault;

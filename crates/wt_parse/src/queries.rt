@@ -10,16 +10,16 @@ ghost use Rattle.wt_front.specs.Giving.{Gives, Adds, is_joint};
 
 use std::alloc::Global;
 use wt_ast::{ColumnName, ColumnNames, CondKind, Condition, FromPart, Item, Items, Query, Scalar};
-use wt_grammar::QueryFault;
-use wt_lex::Word;
 use wt_front::QueryError;
-use wt_parts::comparisons::{
-    after_not, all_or_one, any_or_one, between, compared, is_part, negation, values,
-};
 use wt_front::front::{
     after, at_and, at_between, at_close, at_comma, at_end, at_from, at_in, at_is, at_join_words,
     at_name, at_not, at_on, at_open, at_or, at_select, at_where, expect, kind, no, no_end, no_join,
     no_join_or_end, no_statement, place,
+};
+use wt_grammar::QueryFault;
+use wt_lex::Word;
+use wt_parts::comparisons::{
+    after_not, all_or_one, any_or_one, between, compared, is_part, negation, values,
 };
 use wt_parts::lists::{list, listed};
 use wt_parts::parts::operand;

@@ -12,10 +12,10 @@ use crate::queries::statement;
 use std::alloc::Global;
 use std::marker::Model;
 use wt_ast::{Mark, Marked, Query};
-use wt_grammar::QueryFault;
-use wt_lex::{LexError, Sym, Token, TokenKind, Tokens, lex};
 use wt_front::QueryError;
 use wt_front::lexemes::lexemes;
+use wt_grammar::QueryFault;
+use wt_lex::{LexError, Sym, Token, TokenKind, Tokens, lex};
 use wt_reading::Lexeme;
 use wt_value::WantOfMemory;
 
@@ -48,10 +48,8 @@ impl<'a> Model for Queries<'a> {
 
     ghost view = { λ q. record { bytes = q.bytes.now; statements = map (shown q.tokens) q.pieces.items } };
 
-    ghost invariant = {
-        λ q. All (Holds q.tokens) q.pieces.items
-            × (file_of q.bytes.now ≡ Ok (record { bytes = q.bytes.now; statements = map (shown q.tokens) q.pieces.items }))
-    };
+    ghost invariant = { λ q. All (Holds q.tokens) q.pieces.items
+        × (file_of q.bytes.now ≡ Ok (record { bytes = q.bytes.now; statements = map (shown q.tokens) q.pieces.items })) };
 }
 
 fn is_semicolon(kind: TokenKind) -> bool

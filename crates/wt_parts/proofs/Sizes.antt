@@ -1,5 +1,5 @@
 -- How many tokens a list with commas takes, part by part.
-use Rattle.std.proofs.Common.{◌≡◌, ℕ, ◌+◌, true, false, List, [], ◌∷◌, drop, refl, ap, sym, ◌∙◌, arith, add-zero, Option, Some, None, Ok, Err}
+use Rattle.std.proofs.Common.{◌≡◌, ℕ, ◌+◌, true, false, List, ◌∷◌, drop, refl, ap, sym, ◌∙◌, arith, add-zero, Option, Some, None, Ok, Err}
 use Rattle.std.proofs.lemmas.List.{drop-drop}
 use Rattle.wt_reading.specs.Lexemes.{Tokens, kind, is_comma, is_close}
 use Rattle.wt_reading.specs.Readings.{Reading, plus, followed, joined_to, more, list}

@@ -5,15 +5,15 @@ ghost use Rattle.wt_reading.specs.Lexemes as lexemes;
 ghost use Rattle.wt_grammar.specs.Reading as spec;
 ghost use Rattle.wt_front.specs.Giving.{Gives};
 
+use crate::lists::listed;
+use crate::parts::operand;
+use std::alloc::Global;
+use wt_ast::{CmpWord, ColumnName, CondKind, Condition, Conditions, Scalar};
 use wt_front::QueryError;
 use wt_front::front::{
     after, at_and, at_between, at_in, at_not, at_null, at_open, at_select, cmp_of, expect, kind,
     no, no_negated, place,
 };
-use crate::lists::listed;
-use crate::parts::operand;
-use std::alloc::Global;
-use wt_ast::{CmpWord, ColumnName, CondKind, Condition, Conditions, Scalar};
 use wt_grammar::QueryFault;
 use wt_reading::Lexeme;
 use wt_value::{Value, Values, WantOfMemory};
@@ -80,7 +80,12 @@ fn comparison(at: u32, word: CmpWord, a: Scalar, b: Scalar, word_at: u32) -> Con
     }
 }
 
-fn and_of_two(alloc: Global, at: u32, one: Condition, other: Condition) -> Result<Condition, WantOfMemory>
+fn and_of_two(
+    alloc: Global,
+    at: u32,
+    one: Condition,
+    other: Condition,
+) -> Result<Condition, WantOfMemory>
     ensures { IfOk result (λ c. condition_tree c ≡ all_of at (condition_trees (one ∷ other ∷ []))) }
 {
     let mut parts = Vec::new(alloc);

@@ -6,11 +6,11 @@ ghost use Rattle.wt_grammar.specs.Reading.{Read};
 ghost use Rattle.wt_reading.specs.Readings as readings;
 ghost use Rattle.wt_front.specs.Giving.{Gives, Adds};
 
-use wt_front::QueryError;
-use wt_front::front::{after, at_close, at_comma, expect, no};
 use crate::parts::{column, item, literal, name};
 use std::alloc::Global;
 use wt_ast::{ColumnName, Item};
+use wt_front::QueryError;
+use wt_front::front::{after, at_close, at_comma, expect, no};
 use wt_grammar::QueryFault;
 use wt_reading::Lexeme;
 use wt_value::{Name, Value};

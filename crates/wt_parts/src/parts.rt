@@ -4,13 +4,13 @@ ghost use Rattle.wt_reading.specs.Lexemes.{place, is_comma, kind};
 ghost use Rattle.wt_grammar.specs.Reading as spec;
 ghost use Rattle.wt_front.specs.Giving.{Gives, Adds};
 
+use std::alloc::Global;
+use wt_ast::{ColumnName, Item, Scalar};
 use wt_front::QueryError;
 use wt_front::front::{
     after, at_as, at_close, at_comma, at_dot, at_name, at_open, at_star, beyond, expect, kind, no,
     no_item, no_literal, no_operand, place,
 };
-use std::alloc::Global;
-use wt_ast::{ColumnName, Item, Scalar};
 use wt_grammar::QueryFault;
 use wt_lex::{LexFault, Sym, name_of, text_of};
 use wt_reading::{Kind, Lexeme};

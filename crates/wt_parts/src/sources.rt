@@ -7,15 +7,15 @@ ghost use Rattle.wt_reading.specs.Readings as readings;
 ghost use Rattle.wt_ast.specs.Tree.{condition_tree, query_tree, derived, comma};
 ghost use Rattle.wt_front.specs.Giving.{Gives, size_of};
 
+use crate::lists::listed;
+use crate::parts::{alias, name, name_at, name_only};
+use std::alloc::Global;
+use wt_ast::{Condition, FromPart, Query};
 use wt_front::QueryError;
 use wt_front::front::{
     after, at_all, at_as, at_close, at_comma, at_distinct, at_dot, at_in, at_inner, at_join,
     at_left, at_name, at_not, at_open, at_outer, expect, no, place,
 };
-use crate::lists::listed;
-use crate::parts::{alias, name, name_at, name_only};
-use std::alloc::Global;
-use wt_ast::{Condition, FromPart, Query};
 use wt_grammar::{JoinKind, QueryFault};
 use wt_reading::Lexeme;
 use wt_value::{Name, Names, WantOfMemory};

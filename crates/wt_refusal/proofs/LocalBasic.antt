@@ -11,7 +11,7 @@ use Rattle.wt_reading.specs.Lexemes.{Tokens, kind, place, is_open, is_close, is_
 use Rattle.wt_grammar.specs.Kinds.{is_and, is_or, is_not, is_select, is_in}
 use Rattle.wt_grammar.specs.Refusals.{syntax}
 use Rattle.wt_grammar.specs.Reading as read
-use Rattle.wt_reading.specs.Readings.{plus, followed, list, within}
+use Rattle.wt_reading.specs.Readings.{plus, followed, list}
 use Rattle.wt_grammar.specs.Reading.{Read, Refusal, Nest, refused, refusal, opens_tuple, in_follows}
 use Rattle.wt_reading.specs.Sentences.{Listed, Parens}
 use Rattle.wt_sentence.specs.Grammar.{Column}

@@ -16,7 +16,7 @@ use Rattle.wt_reading.specs.Lexemes.{Tokens, kind, place, is_open, is_name, is_c
 use Rattle.wt_grammar.specs.Kinds.{is_select, is_distinct, is_all, is_from, is_where, is_as, is_inner, is_left, is_outer, is_join, is_on, begins_join}
 use Rattle.wt_grammar.specs.Refusals.{syntax, no_join}
 use Rattle.wt_grammar.specs.Reading as read
-use Rattle.wt_reading.specs.Readings.{plus, followed, list, expect, within, onward, repeat}
+use Rattle.wt_reading.specs.Readings.{plus, followed, list, expect, onward, repeat}
 use Rattle.wt_grammar.specs.Reading.{Read, Nest, refused, refusal, join_of, name_at, name_only, place_or, no_query_end}
 use Rattle.wt_sentence.specs.Grammar.{Column, deeper}
 use Rattle.wt_sentence.proofs.Complete.{complete_below}

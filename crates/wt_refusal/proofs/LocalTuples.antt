@@ -13,7 +13,6 @@ use Rattle.wt_grammar.specs.declared.fault.QueryFault.TheVariants as fault
 use Rattle.wt_reading.specs.Lexemes.{Tokens, kind, place, is_name, is_open, is_close, is_comma}
 use Rattle.wt_grammar.specs.Kinds.{is_is, is_dot, is_null_word}
 use Rattle.wt_grammar.specs.Reading as read
-use Rattle.wt_reading.specs.Readings.{plus, followed}
 use Rattle.wt_grammar.specs.Reading.{Read, refused, Nest, run, in_follows, is_tuple, name_at, cmp_of}
 use Rattle.wt_sentence.proofs.Stages.{Stage, before_column, behind_name, behind_dot, behind_column, next_stage, ends_column, passes, passes_is}
 use Rattle.wt_sentence.specs.Grammar.{Column, Deeper}

@@ -1,5 +1,5 @@
 -- Chains of steps, each from what was read so far: what is read is a chain, and each chain is read.
-use Rattle.std.proofs.Common.{◌≡◌, ℕ, suc, zero, ◌+◌, ◌-◌, ◌≤◌, ◌⊎◌, inl, inr, Bool, true, false, List, [], ◌∷◌, ◌++◌, length, drop, refl, ap, sym, ◌∙◌, arith, append_assoc, length-append, length-drop, Ok, Err, subst}
+use Rattle.std.proofs.Common.{◌≡◌, ℕ, suc, zero, ◌+◌, ◌-◌, ◌≤◌, ◌⊎◌, inl, inr, Bool, true, false, [], ◌∷◌, ◌++◌, length, drop, refl, ap, sym, ◌∙◌, arith, append_assoc, length-append, length-drop, Ok, Err, subst}
 use Rattle.wt_ast.specs.Tree.{FromTree}
 use Rattle.wt_reading.specs.declared.lexeme.Kind.{Kind}
 use Rattle.wt_reading.specs.declared.lexeme.Kind.TheVariants.{End}

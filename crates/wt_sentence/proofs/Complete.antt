@@ -9,7 +9,7 @@ use Rattle.wt_grammar.specs.Refusals.{syntax, no_join, no_statement}
 use Rattle.wt_grammar.specs.Reading as read
 use Rattle.wt_reading.specs.Readings.{plus, followed}
 use Rattle.wt_grammar.specs.Reading.{Read, refusal, no_query_end, opens_tuple}
-use Rattle.wt_reading.specs.Sentences.{Seq, Is, IsAt, Parens}
+use Rattle.wt_reading.specs.Sentences.{Seq, Is, Parens}
 use Rattle.wt_sentence.specs.Grammar.{deeper}
 use Rattle.wt_sentence.specs.Grammar as spec
 use Rattle.wt_reading.proofs.Took.{some_seq, some_one}

@@ -1,5 +1,5 @@
 -- What the grammar derives is read: names, columns, literals, operands, items.
-use Rattle.std.proofs.Common.{◌≡◌, ℕ, suc, ◌+◌, ◌^◌, ◌<◌, ◌≤◌, inl, inr, Bool, true, false, List, [], ◌∷◌, ◌++◌, length, drop, refl, ap, sym, ◌∙◌, arith, append_assoc, length-append, add-zero, Ok, Option, Some, None, subst}
+use Rattle.std.proofs.Common.{◌≡◌, ℕ, ◌^◌, ◌<◌, ◌≤◌, inl, inr, Bool, true, false, List, [], ◌∷◌, ◌++◌, length, drop, refl, ap, sym, ◌∙◌, append_assoc, add-zero, Ok, Option, Some, None, subst}
 use Rattle.std.proofs.lemmas.Bool.{lt-ltb, le-ltb}
 use Rattle.std.specs.Prelude.{◌&&◌, pos, neg_ℤ}
 use Rattle.wt_value.specs.declared.value.Value.{Value}
@@ -11,17 +11,15 @@ use Rattle.wt_ast.specs.declared.tree.Scalar.TheVariants as scalar
 use Rattle.wt_ast.specs.Tree.{CondTree, CondTrees}
 use Rattle.wt_reading.specs.declared.lexeme.Kind.{Kind}
 use Rattle.wt_reading.specs.declared.lexeme.Kind.TheVariants.{Name}
-use Rattle.wt_reading.specs.declared.lexeme.Lexeme.{Lexeme}
 use Rattle.wt_grammar.specs.declared.fault.QueryFault.{QueryFault}
 use Rattle.wt_reading.specs.Lexemes.{Tokens, kind, place, at, is_name, is_open, is_comma}
 use Rattle.wt_grammar.specs.Kinds.{is_dot, is_star, is_as}
 use Rattle.wt_grammar.specs.Refusals.{beyond}
-use Rattle.wt_reading.specs.Readings.{plus, followed, joined_to, more, list, expect}
+use Rattle.wt_reading.specs.Readings.{plus, followed, more, list, expect}
 use Rattle.wt_grammar.specs.Reading.{Read, refusal, run, one_or, name, column, operand, operand_by, literal, literal_by, alias, item, item_front, ended, ended_by, unsigned, negative, negative_by, listed_negative, name_at, text_at, name_only}
-use Rattle.wt_reading.specs.Sentences.{Seq, One, Is, IsAt, Behind, Listed, Parens}
+use Rattle.wt_reading.specs.Sentences.{Is, IsAt, Behind, Listed}
 use Rattle.wt_sentence.specs.Grammar.{Run, Column, Literal, AnyLiteral, Operand, Named, Alias, IsItem}
 use Rattle.wt_sentence.specs.Grammar as spec
-use Rattle.wt_reading.proofs.Inversions.{skip}
 use Rattle.wt_reading.proofs.Took.{drop_front}
 use Rattle.wt_reading.proofs.Complete as general
 use Rattle.wt_reading.proofs.Complete.{then_reads, last_reads, plus_one}

@@ -1,5 +1,5 @@
 -- What the grammar derives is read: conditions, FROM and queries.
-use Rattle.std.proofs.Common.{◌≡◌, ℕ, suc, zero, ◌+◌, ◌-◌, ◌≤◌, inl, inr, Bool, true, false, List, [], ◌∷◌, ◌++◌, length, drop, refl, ap, sym, ◌∙◌, arith, append_assoc, length-append, Ok, Option, Some, subst}
+use Rattle.std.proofs.Common.{◌≡◌, ℕ, suc, ◌≤◌, inl, inr, Bool, true, false, List, [], ◌∷◌, ◌++◌, length, drop, refl, ap, sym, ◌∙◌, arith, append_assoc, Ok, Option, Some, subst}
 use Rattle.std.specs.Prelude.{◌&&◌, ◌||◌}
 use Rattle.wt_value.specs.declared.value.Value.{Value}
 use Rattle.wt_ast.specs.declared.tree.ColumnName.{ColumnName}
@@ -11,7 +11,6 @@ use Rattle.wt_reading.specs.declared.lexeme.Kind.{Kind}
 use Rattle.wt_reading.specs.declared.lexeme.Lexeme.{Lexeme}
 use Rattle.wt_grammar.specs.declared.join.JoinKind.{JoinKind}
 use Rattle.wt_grammar.specs.declared.join.JoinKind.TheVariants as joining
-use Rattle.wt_grammar.specs.declared.fault.QueryFault.{QueryFault}
 use Rattle.wt_reading.specs.Lexemes.{Tokens, kind, place, at, is_open, is_close, is_comma, is_name}
 use Rattle.wt_grammar.specs.Kinds.{is_and, is_or, is_not, is_select, is_distinct, is_all, is_from, is_between, is_is, is_null_word, is_in, is_as, is_inner, is_left, is_right, is_outer, is_join, is_on, is_dot, begins_join}
 use Rattle.wt_grammar.specs.Refusals.{syntax, no_join}
@@ -19,10 +18,10 @@ use Rattle.wt_grammar.specs.Reading as read
 use Rattle.wt_reading.specs.Readings.{plus, followed, expect, within, list, repeat}
 use Rattle.wt_grammar.specs.Reading.{Read, Refusal, Nest, cmp_of, between_of, join_of, name_only, place_or, opens_tuple, no_query_end, one_or, in_follows, refusal}
 use Rattle.wt_sentence.proofs.Stages.{before_column, next_stage, passes}
-use Rattle.wt_reading.specs.Sentences.{Seq, One, Is, IsAt, Behind, Listed, Parens}
+use Rattle.wt_reading.specs.Sentences.{Seq, One, Is, Listed, Parens}
 use Rattle.wt_sentence.specs.Grammar.{Run, Column, AnyLiteral, Operand, Named, Alias, IsItem, Chain, Deeper}
 use Rattle.wt_sentence.specs.Grammar as spec
-use Rattle.wt_reading.proofs.Took.{There, some_seq, some_one, drop_front}
+use Rattle.wt_reading.proofs.Took.{There, some_seq, some_one}
 use Rattle.wt_sentence.proofs.SoundQueries.{operand_there}
 use Rattle.wt_sentence.proofs.Follows.{Plain, EndsCond, EndsFrom, EndsList, EndsQuery, right_is, comma_from, not_is, all_is, from_is, null_word_is, in_is_word, in_is, as_is, inner_is, left_is, join_is, open_is, close_is, name_is, star_is, and_plain, or_plain, comma_plain, close_plain, from_plain, on_plain, joins_cond, where_list, or_not_and, cmp_tests, cmp_front, between_front, not_front, is_front, in_front, Front}
 use Rattle.wt_sentence.proofs.Chains.{chain_front, chain_reads}

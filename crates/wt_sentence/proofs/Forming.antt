@@ -1,15 +1,12 @@
 -- The tree of a sentence is formed: its lists and runs have the parts that they need, and its names are names.
-use Rattle.std.proofs.Common.{◌≡◌, ℕ, zero, suc, ◌+◌, ◌<◌, ◌≤◌, ◌⊎◌, inl, inr, Bool, true, false, List, [], ◌∷◌, ◌++◌, length, refl, ap, sym, ◌∙◌, arith, Option, Some, None, subst}
+use Rattle.std.proofs.Common.{◌≡◌, ℕ, zero, suc, ◌≤◌, inl, inr, Bool, true, false, List, [], ◌∷◌, ◌++◌, refl, sym, arith, Option, subst}
 use Rattle.std.specs.List.{AllByRecursion}
 use Rattle.std.specs.Str.{is_utf8}
 use Rattle.wt_value.specs.declared.value.Value.{Value}
-use Rattle.wt_value.specs.declared.value.Value.TheVariants as value
 use Rattle.wt_lex.specs.Names.{name_bytes, text_bytes}
 use Rattle.wt_ast.specs.declared.tree.ColumnName.{ColumnName}
-use Rattle.wt_ast.specs.declared.tree.Item.{Item}
 use Rattle.wt_ast.specs.declared.tree.Scalar.{Scalar}
-use Rattle.wt_ast.specs.declared.tree.Scalar.TheVariants as scalar
-use Rattle.wt_ast.specs.Tree.{QueryTree, FilterTree, FromTree, CondTree, CondTrees, comma, all_of, any_of, no_conds, cond_then, trees_of, cond_at}
+use Rattle.wt_ast.specs.Tree.{QueryTree, FromTree, CondTree, CondTrees, all_of, any_of, trees_of, cond_at}
 use Rattle.wt_ast.specs.Lawful.{IsName, IfWritten, OneOrMore, IsColumn, IsLiteral, IsScalar, IsFormed, IsFilter, IsFrom, IsCond, AreConds, part_count}
 use Rattle.wt_ast.specs.Lawful as lawful
 use Rattle.wt_reading.specs.declared.lexeme.Kind.{Kind}

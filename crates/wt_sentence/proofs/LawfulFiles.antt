@@ -1,6 +1,6 @@
 -- What a statement of a file is read to is a lawful tree.
 use Rattle.std.proofs.Common.{◌≡◌, ℕ, zero, suc, ◌<◌, ◌≤◌, Bool, true, false, List, [], ◌∷◌, length, map, refl, ap, sym, ◌∙◌, arith, subst, Ok, Err, Option, Some, None}
-use Rattle.std.specs.Prelude.{if◌then◌else◌, slice_get, filter, min, Result}
+use Rattle.std.specs.Prelude.{if◌then◌else◌, slice_get, filter, Result}
 use Rattle.std.specs.List.{AllByRecursion}
 use Rattle.std.specs.Str.{IsUtf8, is_utf8}
 use Rattle.std.proofs.lemmas.Str.{is_utf8-from_IsUtf8}
@@ -17,15 +17,14 @@ use Rattle.wt_lex.proofs.Lexing.{lexed_ok, tokens_stand}
 use Rattle.wt_ast.specs.Tree.{QueryTree}
 use Rattle.wt_ast.specs.Lawful.{IsLawful}
 use Rattle.wt_ast.specs.Marks.{marks, places}
-use Rattle.wt_ast.specs.declared.marks.Mark.{Mark}
 use Rattle.wt_ast.specs.declared.marks.Marked.TheVariants.{FromItem, Conjunct, HiddenIn}
 use Rattle.wt_reading.specs.Lexemes.{lexeme, kind_by, is_name}
 use Rattle.wt_reading.specs.declared.lexeme.Kind.TheVariants.{Text}
 use Rattle.wt_grammar.specs.declared.fault.QueryFault.{QueryFault}
 use Rattle.wt_grammar.specs.declared.fault.QueryFault.TheVariants as fault
-use Rattle.wt_grammar.specs.Reading.{Read, Refusal, refused, odd, statement}
-use Rattle.wt_grammar.specs.Statements.{Statement, File, Answer, file_by, file_of, statements, is_semicolon, add, cut, has_tokens, is_too_long, lexical_or, first_odd, limited, unless, barred, hidden_or, too_many, crowded, earlier, answer, begin}
-use Rattle.wt_sentence.proofs.Forming.{Stands, AllStand, sentence_forms}
+use Rattle.wt_grammar.specs.Reading.{Read, refused, statement}
+use Rattle.wt_grammar.specs.Statements.{Statement, File, Answer, file_by, file_of, statements, is_semicolon, add, cut, has_tokens, is_too_long, lexical_or, first_odd, limited, unless, barred, hidden_or, too_many, earlier, answer, begin}
+use Rattle.wt_sentence.proofs.Forming.{AllStand, sentence_forms}
 use Rattle.wt_sentence.proofs.Sound.{sound}
 
 -- ---- the tokens of a statement stand in the file

@@ -15,7 +15,7 @@ use Rattle.wt_grammar.specs.Refusals.{syntax, no_join}
 use Rattle.wt_grammar.specs.Reading as read
 use Rattle.wt_reading.specs.Readings.{plus}
 use Rattle.wt_grammar.specs.Reading.{Read, refusal, no_query_end}
-use Rattle.wt_reading.specs.Sentences.{Seq, Is, IsAt, Parens}
+use Rattle.wt_reading.specs.Sentences.{Seq, Is, IsAt}
 use Rattle.wt_sentence.specs.Grammar.{deeper}
 use Rattle.wt_sentence.specs.Grammar as spec
 use Rattle.wt_reading.proofs.Inversions.{held, ok_parts, plus_ok, followed_ok, last_ok}

@@ -18,7 +18,7 @@ use Rattle.wt_grammar.specs.Kinds.{is_dot, is_star, is_as}
 use Rattle.wt_grammar.specs.Refusals.{beyond}
 use Rattle.wt_reading.specs.Readings.{followed}
 use Rattle.wt_grammar.specs.Reading.{Read, Refusal, odd, name, column, operand, operand_by, literal, literal_by, alias, item, item_front, ended, ended_by, unsigned, negative, negative_by, listed_negative, name_at, text_at, name_only}
-use Rattle.wt_reading.specs.Sentences.{Seq, One, Is, IsAt}
+use Rattle.wt_reading.specs.Sentences.{Seq, Is, IsAt}
 use Rattle.wt_sentence.specs.Grammar.{Column, Literal, AnyLiteral, Operand, Named, Alias, IsItem}
 use Rattle.wt_sentence.specs.Grammar as spec
 use Rattle.wt_reading.proofs.Inversions.{chosen, held, ok_parts, plus_ok, followed_ok, last_ok}

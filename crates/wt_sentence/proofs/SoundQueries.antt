@@ -1,5 +1,5 @@
 -- What is read is a sentence: conditions, FROM and queries.
-use Rattle.std.proofs.Common.{◌≡◌, ℕ, suc, zero, ◌+◌, ◌-◌, ◌≤◌, length-drop, ◌⊎◌, inl, inr, Bool, true, false, List, [], ◌∷◌, length, drop, refl, ap, sym, ◌∙◌, arith, Ok, Err, Option, Some, None, subst}
+use Rattle.std.proofs.Common.{◌≡◌, ℕ, ◌+◌, ◌≤◌, inl, inr, Bool, true, false, List, [], ◌∷◌, length, drop, refl, ap, sym, ◌∙◌, arith, Ok, Err, Option, Some, None, subst}
 use Rattle.std.specs.Prelude.{if◌then◌else◌}
 use Rattle.wt_value.specs.declared.value.Value.{Value}
 use Rattle.wt_ast.specs.declared.tree.ColumnName.{ColumnName}
@@ -17,7 +17,7 @@ use Rattle.wt_grammar.specs.Refusals.{syntax, no_join}
 use Rattle.wt_grammar.specs.Reading as read
 use Rattle.wt_reading.specs.Readings.{plus, followed, expect, list}
 use Rattle.wt_grammar.specs.Reading.{Read, Refusal, refusal, Nest, cmp_of, between_of, join_of, name_only, place_or, opens_tuple, no_query_end}
-use Rattle.wt_reading.specs.Sentences.{Seq, One, Is, IsAt, Behind, Listed, Parens}
+use Rattle.wt_reading.specs.Sentences.{Seq, One, Is, IsAt, Listed, Parens}
 use Rattle.wt_sentence.specs.Grammar.{Run, Column, AnyLiteral, Operand, Named, Alias, IsItem, Chain, Deeper}
 use Rattle.wt_sentence.specs.Grammar as spec
 use Rattle.wt_sentence.proofs.Follows.{right_begins}

@@ -1,17 +1,15 @@
 -- The first tokens are a sentence.
-use Rattle.std.proofs.Common.{◌≡◌, ℕ, ◌+◌, Bool, true, false, List, [], ◌∷◌, ◌++◌, length, drop, refl, ap, sym, ◌∙◌, arith, append_assoc, Ok, length-append, subst}
+use Rattle.std.proofs.Common.{◌≡◌, ℕ, Bool, false, drop, refl}
 use Rattle.wt_reading.specs.declared.lexeme.Kind.{Kind}
 use Rattle.wt_reading.specs.declared.lexeme.Kind.TheVariants.{End}
-use Rattle.wt_reading.specs.declared.lexeme.Lexeme.{Lexeme}
-use Rattle.wt_reading.specs.Lexemes.{Tokens, kind, place, is_comma, is_open, is_close}
-use Rattle.wt_reading.specs.Readings.{more, list, expect, within}
+use Rattle.wt_reading.specs.Lexemes.{Tokens}
+use Rattle.wt_reading.specs.Readings.{more}
 use Rattle.wt_grammar.specs.Reading.{Read, run, one_or}
 use Rattle.wt_ast.specs.Tree.{CondTree, CondTrees}
-use Rattle.wt_grammar.specs.declared.fault.QueryFault.{QueryFault}
-use Rattle.wt_reading.specs.Sentences.{Seq, One, Is, IsAt, Behind, Listed, Parens}
+use Rattle.wt_reading.specs.Sentences.{Seq, Behind}
 use Rattle.wt_sentence.specs.Grammar.{Run}
 use Rattle.wt_reading.proofs.Took.{Sound, took_then, took_as, behind_sound}
-use Rattle.wt_reading.proofs.Inversions.{held, ok_parts, plus_ok, followed_ok, last_ok, more_cons, more_nil, nothing}
+use Rattle.wt_reading.proofs.Inversions.{followed_ok, last_ok}
 
 pub run_sound : (sep : Kind → Bool) (whole : ℕ → CondTrees → CondTree) (Part : CondTree → Tokens → Type 0) (part : Tokens → Read CondTree) → sep End ≡ false → Sound Part part
     → Sound (Run sep whole Part) (run sep whole part)

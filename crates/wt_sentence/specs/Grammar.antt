@@ -1,6 +1,6 @@
 -- The grammar of statements: which tokens are which tree. Each definition is a line of it, and says of a value and of
 -- tokens that the tokens are a sentence of the line with this value.
-use Rattle.std.specs.Prelude.{◌≡◌, ℕ, zero, suc, ◌^◌, ◌<◌, ◌≤◌, Bool, true, false, ◌⊎◌, List, [], ◌∷◌, ◌++◌, Option, Some, None, pos, neg_ℤ}
+use Rattle.std.specs.Prelude.{◌≡◌, ℕ, zero, suc, ◌^◌, ◌<◌, ◌≤◌, Bool, true, false, ◌⊎◌, List, [], ◌∷◌, Option, Some, None, pos, neg_ℤ}
 use Rattle.wt_value.specs.declared.value.Value.{Value}
 use Rattle.wt_value.specs.declared.value.Value.TheVariants as value
 use Rattle.wt_lex.specs.declared.token.Sym.TheVariants as sym
@@ -13,10 +13,9 @@ use Rattle.wt_ast.specs.declared.tree.CmpWord.{CmpWord}
 use Rattle.wt_ast.specs.Tree.{QueryTree, FilterTree, FromTree, CondTree, CondTrees, select, no_filter, filter_by, table, derived, comma, compare, is_null, is_not_null, in_list, in_query, all_of, any_of, negated}
 use Rattle.wt_reading.specs.declared.lexeme.Kind.{Kind}
 use Rattle.wt_reading.specs.declared.lexeme.Kind.TheVariants.{Number, Text, Mark}
-use Rattle.wt_reading.specs.declared.lexeme.Lexeme.{Lexeme}
 use Rattle.wt_grammar.specs.declared.join.JoinKind.{JoinKind}
 use Rattle.wt_grammar.specs.declared.join.JoinKind.TheVariants as joining
-use Rattle.wt_reading.specs.Lexemes.{Tokens, place, is_open, is_close, is_comma, is_name}
+use Rattle.wt_reading.specs.Lexemes.{Tokens, place, is_comma, is_name}
 use Rattle.wt_grammar.specs.Kinds.{is_and, is_or, is_not, is_select, is_distinct, is_all, is_from, is_where, is_between, is_is, is_null_word, is_in, is_as, is_inner, is_left, is_right, is_outer, is_join, is_on, is_dot, is_star}
 use Rattle.wt_reading.specs.Sentences.{Seq, One, Is, IsAt, Behind, Listed, Parens}
 use Rattle.wt_grammar.specs.Reading.{name_at, text_at, cmp_of, between_of, one_or, join_of, name_only, place_or}

@@ -1,5 +1,5 @@
 -- The tokens before a refusal begin a sentence: FROM and queries.
-use Rattle.std.proofs.Common.{◌≡◌, ℕ, suc, zero, ◌-◌, ◌≤◌, ◌⊎◌, inl, inr, Bool, true, false, List, [], ◌∷◌, ◌++◌, drop, refl, ap, sym, ◌∙◌, arith, append-nil, Ok, Err, Some, None, subst}
+use Rattle.std.proofs.Common.{◌≡◌, ℕ, inl, inr, Bool, true, false, List, [], ◌++◌, drop, refl, sym, append-nil, Ok, Err, Some, None}
 use Rattle.wt_ast.specs.declared.tree.Item.{Item}
 use Rattle.wt_ast.specs.Tree.{QueryTree, FromTree, select, no_filter, filter_by, table, derived, comma}
 use Rattle.wt_reading.specs.declared.lexeme.Kind.{Kind}
@@ -12,7 +12,7 @@ use Rattle.wt_reading.specs.Lexemes.{Tokens, kind, place, is_open, is_name, is_c
 use Rattle.wt_grammar.specs.Kinds.{is_select, is_distinct, is_all, is_from, is_where, is_as, is_inner, is_left, is_right, is_outer, is_join, is_on, begins_join}
 use Rattle.wt_grammar.specs.Refusals.{syntax, no_join}
 use Rattle.wt_grammar.specs.Reading as read
-use Rattle.wt_reading.specs.Readings.{plus, followed, expect, list, repeat}
+use Rattle.wt_reading.specs.Readings.{followed, expect, list, repeat}
 use Rattle.wt_grammar.specs.Reading.{Read, Refusal, refused, refusal, Nest, join_of, name_only, place_or}
 use Rattle.wt_reading.specs.Sentences.{Seq, Is, Listed, Parens}
 use Rattle.wt_sentence.specs.Grammar.{Named, Alias, IsItem, Deeper}

@@ -7,7 +7,6 @@ use Rattle.wt_ast.specs.declared.tree.Scalar.TheVariants as scalar
 use Rattle.wt_ast.specs.Tree.{QueryTree, FromTree, CondTree, CondTrees, select, filter_by, derived, in_list, in_query, negated}
 use Rattle.wt_ast.specs.Tree as tree
 use Rattle.wt_reading.specs.declared.lexeme.Kind.{Kind}
-use Rattle.wt_grammar.specs.declared.fault.QueryFault.{QueryFault}
 use Rattle.wt_grammar.specs.declared.fault.QueryFault.TheVariants as fault
 use Rattle.wt_reading.specs.Lexemes.{Tokens, kind, place, is_name, is_open, is_close, is_comma, is_end}
 use Rattle.wt_grammar.specs.Kinds.{is_and, is_or, is_not, is_select, is_where, is_between, is_is, is_in, is_on, is_from, begins_join}

@@ -1,12 +1,10 @@
-use Rattle.std.proofs.Common.{◌∙◌, ◌+◌, sym, ap, arith, drop, length, length-drop, add-zero, is_ok, refl, Ok}
+use Rattle.std.proofs.Common.{◌∙◌, ◌+◌, sym, ap, arith, length, length-drop, is_ok, refl}
 use Rattle.std.specs.Prelude.{map}
-use Rattle.std.proofs.lemmas.List.{drop-drop}
 use Rattle.std.proofs.ResultArms.{chosen}
 use Rattle.wt_ast.specs.Tree.{condition_tree, from_tree}
 use Rattle.wt_reading.specs.Lexemes.{kind, at, is_comma}
 use Rattle.wt_grammar.specs.Kinds.{begins_join, is_and, is_or}
 use Rattle.wt_grammar.specs.Reading as spec
-use Rattle.wt_reading.specs.Readings as readings
 use Rattle.wt_reading.proofs.Loops.{loop_goes, loop_fails, loop_stops, put_err, map_push, turn_goes, turn_fails, turn_stops}
 use Rattle.wt_front.proofs.More.{exit, gives_exit, there}
 use Rattle.wt_parse.proofs.queries.+read.Goals as goal

@@ -1,4 +1,4 @@
-use Rattle.std.proofs.Common.{◌∙◌, ◌+◌, sym, ap, arith, length, drop, length-drop}
+use Rattle.std.proofs.Common.{◌∙◌, ◌+◌, sym, ap, arith, length, length-drop}
 use Rattle.wt_reading.specs.Lexemes.{is_comma, kind}
 use Rattle.wt_reading.specs.Readings.{list}
 use Rattle.wt_grammar.specs.Reading.{column_front}

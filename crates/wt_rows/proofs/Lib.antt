@@ -18,3 +18,7 @@ pub mod Opening
 pub mod Opens
 pub mod DeterminedRows
 pub mod Kept
+pub mod Moving
+pub mod MapsFit
+pub mod OpenedFits
+pub mod StayFit

@@ -65,7 +65,7 @@ beside_reads f (m ∷ ns) n h = go (nat_eq m n) refl h (λ k. beside_reads f ns 
     go false q (inl k) ih = absurd (false≢true (sym q ∙ eq-eqb m n (sym k)))
     go false q (inr k) ih = ap (λ t. cond t (f m) (number_at (beside ns (map f ns)) n)) q ∙ ih k
 
-beside_each : (f : ℕ → Value) (ns ms : List ℕ) → Each (λ n. Has n ns) ms → map f ms ≡ map (number_at (beside ns (map f ns))) ms
+pub beside_each : (f : ℕ → Value) (ns ms : List ℕ) → Each (λ n. Has n ns) ms → map f ms ≡ map (number_at (beside ns (map f ns))) ms
 beside_each f ns [] h = refl
 beside_each f ns (m ∷ ms) h = sym (rw (beside_reads f ns m h.0, sym (beside_each f ns ms h.1)) refl)
 

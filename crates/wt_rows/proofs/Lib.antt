@@ -22,3 +22,4 @@ pub mod Moving
 pub mod MapsFit
 pub mod OpenedFits
 pub mod StayFit
+pub mod FitSteps

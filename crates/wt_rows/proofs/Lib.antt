@@ -23,3 +23,6 @@ pub mod MapsFit
 pub mod OpenedFits
 pub mod StayFit
 pub mod FitSteps
+pub mod TermSums
+pub mod Naming
+pub mod SideFits

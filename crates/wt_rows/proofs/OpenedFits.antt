@@ -32,7 +32,7 @@ are_of I (Listed a) Whole c h k = absurd h
 are_of I (Listed a) (Listed b) Whole h k = absurd k
 are_of I (Listed a) (Listed b) (Listed c) h k = each_implies (λ n. Has n (numbers I b)) (λ n. Has n (numbers I a)) (numbers I c) (λ n q. each_has (λ m. Has m (numbers I a)) n (numbers I b) h q) k
 
-cut_part : (I : Instance) (range : FormRange) (j : ℕ) (d c : PartCols) → AreOf I d c → HasPart I range j d → HasPart I range j c
+pub cut_part : (I : Instance) (range : FormRange) (j : ℕ) (d c : PartCols) → AreOf I d c → HasPart I range j d → HasPart I range j c
 cut_part I (Rel r) j d c k h = h
 cut_part I (distinct_of hs ts) j d c k h = at_implies (λ part. AreOf I part.cols d) (λ part. AreOf I part.cols c) (λ part q. are_of I part.cols d c q k) j hs h
 

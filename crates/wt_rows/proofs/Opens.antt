@@ -44,7 +44,7 @@ whole_range : (I : Instance) (range : FormRange) (i : ℕ) (p : List Piece) → 
 whole_range I (Rel r) i p h (row, has, q) = (row, ap (λ j. slice_index_or p j []) h ∙ ap (λ z. slice_index_or z 0 []) q)
 whole_range I (distinct_of hs ts) i p h (row, q) = let w = labels_whole I hs i row h in (w.0, ap (λ z. slice_index_or z i []) q ∙ w.1)
 
-whole_chosen : (I : Instance) (rs : List FormRange) (e : Env) (v i : ℕ) → Fitting (InRange I) rs e → At (λ range. HasPart I range i Whole) v rs → (vs : Tuple) × (slice_index_or (slice_index_or e v []) i [] ≡ numbered 0 vs)
+pub whole_chosen : (I : Instance) (rs : List FormRange) (e : Env) (v i : ℕ) → Fitting (InRange I) rs e → At (λ range. HasPart I range i Whole) v rs → (vs : Tuple) × (slice_index_or (slice_index_or e v []) i [] ≡ numbered 0 vs)
 whole_chosen I [] e v i f a = absurd a
 whole_chosen I (r ∷ rs) [] v i f a = absurd f
 whole_chosen I (r ∷ rs) (p ∷ e) zero i f a = whole_range I r i p a f.0

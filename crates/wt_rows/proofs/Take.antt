@@ -56,7 +56,7 @@ take_value I a e b k (h ∷ hs) (NullOf s d ∷ ps) zero c y l w f r q = go (col
     go false m q = ap (values_of I (a ++ (e ++ b))) (sym (some_is (NullOf s c) y q)) ∙ r m
 
 -- a list's values under its numbers are read back by number
-beside_reads : (f : ℕ → Value) (ns : List ℕ) (n : ℕ) → Has n ns → number_at (beside ns (map f ns)) n ≡ f n
+pub beside_reads : (f : ℕ → Value) (ns : List ℕ) (n : ℕ) → Has n ns → number_at (beside ns (map f ns)) n ≡ f n
 beside_reads f [] n h = absurd h
 beside_reads f (m ∷ ns) n h = go (nat_eq m n) refl h (λ k. beside_reads f ns n k)
   where
@@ -78,7 +78,7 @@ pub cut_whole : (I : Instance) (e : Env) (v i : ℕ) (c : PartCols) (row : Tuple
 cut_whole I e v i c row q p p' = ap (part_values I c) (q ∙ sym (ap (numbered 0) (ap values_in q ∙ values_numbered 0 row)))
 
 -- NULLs under any numbers
-number_of_null : (p : Piece) (n : ℕ) → Each (λ x. x.1 ≡ Null) p → number_at p n ≡ Null
+pub number_of_null : (p : Piece) (n : ℕ) → Each (λ x. x.1 ≡ Null) p → number_at p n ≡ Null
 number_of_null [] n h = refl
 number_of_null (x ∷ p) n h = go (nat_eq x.0 n) (number_of_null p n h.1)
   where
@@ -95,7 +95,7 @@ nulls_beside [] vs h = tt
 nulls_beside (n ∷ ns) [] h = tt
 nulls_beside (n ∷ ns) (v ∷ vs) h = (h.0, nulls_beside ns vs h.1)
 
-nulls_each : (n : ℕ) → Each (λ v. v ≡ Null) (nulls n)
+pub nulls_each : (n : ℕ) → Each (λ v. v ≡ Null) (nulls n)
 nulls_each zero = tt
 nulls_each (suc n) = (refl, nulls_each n)
 
@@ -103,11 +103,11 @@ listed_nulls : (ns : List ℕ) → Each (λ v. v ≡ Null) (map (λ n. Null) ns)
 listed_nulls [] = tt
 listed_nulls (n ∷ ns) = (refl, listed_nulls ns)
 
-null_each : (I : Instance) (r : ℕ) (d : PartCols) → Each (λ v. v ≡ Null) (null_values I r d)
+pub null_each : (I : Instance) (r : ℕ) (d : PartCols) → Each (λ v. v ≡ Null) (null_values I r d)
 null_each I r Whole = nulls_each (width I r)
 null_each I r (Listed a) = listed_nulls (numbers I a)
 
-label_nulls : (I : Instance) (own : PartCols) (vs : Tuple) → Each (λ v. v ≡ Null) vs → Each (λ x. x.1 ≡ Null) (label I own vs)
+pub label_nulls : (I : Instance) (own : PartCols) (vs : Tuple) → Each (λ v. v ≡ Null) vs → Each (λ x. x.1 ≡ Null) (label I own vs)
 label_nulls I Whole vs h = nulls_numbered 0 vs h
 label_nulls I (Listed a) vs h = nulls_beside (numbers I a) vs h
 

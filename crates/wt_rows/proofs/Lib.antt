@@ -26,3 +26,4 @@ pub mod FitSteps
 pub mod TermSums
 pub mod Naming
 pub mod SideFits
+pub mod SideRows

@@ -27,3 +27,4 @@ pub mod TermSums
 pub mod Naming
 pub mod SideFits
 pub mod SideRows
+pub mod Translation

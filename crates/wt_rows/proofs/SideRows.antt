@@ -55,7 +55,7 @@ module _ (I : Instance) (A : List ℕ) (wide : (r : ℕ) → IsWide I r) where
   term_each rs cs cs' ps ps' g g' h = total_each _ _ (choices (ranges_rows rs I)) (each_implies (Chosen I rs) _ (choices (ranges_rows rs I)) h (each_chosen I rs))
 
   -- the values of list a in the row of a choice
-  column_values : (hs : List Part) (rs : Ranges) (cs : Conds) (ps : List Expr) (a : ℕ) → ListStands I hs (anchor A a) a → TermStands I hs rs cs ps → (e : Env) → Chosen I rs e →
+  pub column_values : (hs : List Part) (rs : Ranges) (cs : Conds) (ps : List Expr) (a : ℕ) → ListStands I hs (anchor A a) a → TermStands I hs rs cs ps → (e : Env) → Chosen I rs e →
       values_at A I a (named_row I hs (row_of I ps e)) ≡ values_of I e (list_of hs A a ps)
   column_values hs rs cs ps a st t e ch = list_values I rs e hs ps (anchor A a) a ch st t.cols t.pieces
 
@@ -67,7 +67,7 @@ module _ (I : Instance) (A : List ℕ) (wide : (r : ℕ) → IsWide I r) where
       ∙ ap (λ vs. named_piece (anchor A a) (beside (numbers I a) vs)) (column_values hs rs cs ps a st t e ch)
       ∙ sym (append-nil (named_piece (anchor A a) (beside (numbers I a) (values_of I e (list_of hs A a ps)))))
 
-  law_proj : (hs : List Part) (ts : Terms) (a : ℕ) (old : List Named) → ListStands I hs (anchor A a) a → EachTerm (TermStands I hs) ts → ((g : Named → ℕ) → total g old ≡ named_total g hs ts) →
+  pub law_proj : (hs : List Part) (ts : Terms) (a : ℕ) (old : List Named) → ListStands I hs (anchor A a) a → EachTerm (TermStands I hs) ts → ((g : Named → ℕ) → total g old ≡ named_total g hs ts) →
       (g : Named → ℕ) → total g (map (cells_at A I a) old) ≡ named_total g (list_part A a ∷ []) (each_term (proj_term (list_of hs A a)) ts)
   law_proj hs ts a old st stands ih g =
       total-map g (cells_at A I a) old
@@ -78,7 +78,7 @@ module _ (I : Instance) (A : List ℕ) (wide : (r : ℕ) → IsWide I r) where
       ∙ sym (terms_total-each_term (term_total I (λ p. g (named_row I (list_part A a ∷ []) p))) (proj_term (list_of hs A a)) ts)
 
   -- one condition more, which says of a choice what the test says of its row
-  law_cond : (hs : List Part) (ts : Terms) (c : List Expr → Cond) (test : Named → Bool) (old : List Named) → EachTerm (TermStands I hs) ts →
+  pub law_cond : (hs : List Part) (ts : Terms) (c : List Expr → Cond) (test : Named → Bool) (old : List Named) → EachTerm (TermStands I hs) ts →
       ((rs : Ranges) (cs : Conds) (ps : List Expr) → TermStands I hs rs cs ps → (e : Env) → Chosen I rs e → cond_holds (c ps) I e ≡ test (named_row I hs (row_of I ps e))) → ((g : Named → ℕ) → total g old ≡ named_total g hs ts) →
       (g : Named → ℕ) → total g (filter test old) ≡ named_total g hs (each_term (cond_term c) ts)
   law_cond hs ts c test old stands says ih g =
@@ -148,10 +148,10 @@ module _ (I : Instance) (A : List ℕ) (wide : (r : ℕ) → IsWide I r) where
           ∙ sym (only-total (conds_hold cs I e) _ (choices (ranges_rows rs' I)))
 
   -- whether the values of two lists match in a left and a right row
-  abbrev matching : ℕ → ℕ → Named → Named → Bool
+  abbrev pub matching : ℕ → ℕ → Named → Named → Bool
   matching a b v w = row_matches (values_at A I a v) (values_at A I b w)
 
-  law_inner : (hs gs : List Part) (ss ts : Terms) (a b : ℕ) (old old' : List Named) → ListStands I hs (anchor A a) a → ListStands I gs (anchor A b) b → EachTerm (TermStands I hs) ss → EachTerm (TermStands I gs) ts →
+  pub law_inner : (hs gs : List Part) (ss ts : Terms) (a b : ℕ) (old old' : List Named) → ListStands I hs (anchor A a) a → ListStands I gs (anchor A b) b → EachTerm (TermStands I hs) ss → EachTerm (TermStands I gs) ts →
       ((rs : Ranges) (cs : Conds) (ps : List Expr) → TermStands I hs rs cs ps → IsWithin (ranges_count rs) (list_of hs A a ps)) → ((g : Named → ℕ) → total g old ≡ named_total g hs ss) → ((g : Named → ℕ) → total g old' ≡ named_total g gs ts) →
       (g : Named → ℕ) → total (λ v. total (λ w. only (matching a b v w) (g (v ++ w))) old') old ≡ named_total g (hs ++ gs) (join_terms (list_of hs A a) (list_of gs A b) ss ts)
   law_inner hs gs ss ts a b old old' st st' stands stands' wl ih ih' g =
@@ -183,11 +183,11 @@ module _ (I : Instance) (A : List ℕ) (wide : (r : ℕ) → IsWide I r) where
           ∙ terms_total_by (TermStands I gs) _ _ ts (λ rs' cs' ps' t'. at_both rs cs ps t rs' cs' ps' t') stands'
           ∙ sym (terms_total-each_term W (join_term (list_of hs A a) (list_of gs A b) rs cs ps) ts)
 
-  list_any-map : {X Y : Type 0} (p : Y → Bool) (f : X → Y) (xs : List X) → list_any p (map f xs) ≡ list_any (λ x. p (f x)) xs
+  pub list_any-map : {X Y : Type 0} (p : Y → Bool) (f : X → Y) (xs : List X) → list_any p (map f xs) ≡ list_any (λ x. p (f x)) xs
   list_any-map p f [] = refl
   list_any-map p f (x ∷ xs) = ap (λ b. p (f x) || b) (list_any-map p f xs)
 
-  values_put : (hs : List Part) (row : FormRow) → RowReads I hs row → values (named_row I hs row) ≡ put_together row
+  pub values_put : (hs : List Part) (row : FormRow) → RowReads I hs row → values (named_row I hs row) ≡ put_together row
   values_put [] [] f = refl
   values_put (h ∷ hs) (vs ∷ row) f =
       map-append _ (named_piece h.leaf (label I h.cols vs)) (named_row I hs row)
@@ -206,7 +206,7 @@ module _ (I : Instance) (A : List ℕ) (wide : (r : ℕ) → IsWide I r) where
   values_put (h ∷ hs) [] f = absurd f
 
   -- a test of values finds a row in both or in neither
-  any_named : (hs : List Part) (ts : Terms) (old : List Named) → Each (RowFits I hs) (terms_rows ts I) → ((g : Named → ℕ) → total g old ≡ named_total g hs ts) → (p : Tuple → Bool) →
+  pub any_named : (hs : List Part) (ts : Terms) (old : List Named) → Each (RowFits I hs) (terms_rows ts I) → ((g : Named → ℕ) → total g old ≡ named_total g hs ts) → (p : Tuple → Bool) →
       list_any (λ w. p (values w)) old ≡ list_any (λ q. p (put_together q)) (terms_rows ts I)
   any_named hs ts old fits ih p =
       list_any-total (λ w. p (values w)) old
@@ -215,14 +215,14 @@ module _ (I : Instance) (A : List ℕ) (wide : (r : ℕ) → IsWide I r) where
       ∙ sym (list_any-total (λ q. p (put_together q)) (terms_rows ts I))
 
   -- a left row's rows: those that are joined, or itself with NULLs
-  or_nulls-total : (g : Named → ℕ) (v : Named) (t : SideTree) (ws : List Named) → total g (or_nulls v (columns_of t A I) ws) ≡ total g ws + only (not (list_any (λ w. true) ws)) (g (v ++ rows.nulls (columns_of t A I)))
+  pub or_nulls-total : (g : Named → ℕ) (v : Named) (t : SideTree) (ws : List Named) → total g (or_nulls v (columns_of t A I) ws) ≡ total g ws + only (not (list_any (λ w. true) ws)) (g (v ++ rows.nulls (columns_of t A I)))
   or_nulls-total g v t [] = omega arith
   or_nulls-total g v t (w ∷ ws) = omega arith
 
-  joined-total : (g : Named → ℕ) (a b : ℕ) (v : Named) (ws : List Named) → total g (joined A I a b v ws) ≡ total (λ w. only (matching a b v w) (g (v ++ w))) ws
+  pub joined-total : (g : Named → ℕ) (a b : ℕ) (v : Named) (ws : List Named) → total g (joined A I a b v ws) ≡ total (λ w. only (matching a b v w) (g (v ++ w))) ws
   joined-total g a b v ws = total-map g (λ w. v ++ w) (filter (matching a b v) ws) ∙ total-filter (λ w. g (v ++ w)) (matching a b v) ws
 
-  list_any-filter : {X : Type 0} (p : X → Bool) (xs : List X) → list_any (λ x. true) (filter p xs) ≡ list_any p xs
+  pub list_any-filter : {X : Type 0} (p : X → Bool) (xs : List X) → list_any (λ x. true) (filter p xs) ≡ list_any p xs
   list_any-filter p [] = refl
   list_any-filter p (x ∷ xs) = here (p x) (list_any-filter p xs)
     where
@@ -264,7 +264,7 @@ module _ (I : Instance) (A : List ℕ) (wide : (r : ℕ) → IsWide I r) where
   null_columns (in_sub a s t) e = null_columns s e
   null_columns (dedup s) e = null_columns s e
 
-  law_left : (hs : List Part) (t : SideTree) (ss : Terms) (a b : ℕ) (old old' : List Named) → ListStands I hs (anchor A a) a → ListStands I (head_of t A) (anchor A b) b → b < length I.lists →
+  pub law_left : (hs : List Part) (t : SideTree) (ss : Terms) (a b : ℕ) (old old' : List Named) → ListStands I hs (anchor A a) a → ListStands I (head_of t A) (anchor A b) b → b < length I.lists →
       EachTerm (TermStands I hs) ss → EachTerm (TermStands I (head_of t A)) (side_terms t A) → ((g : Named → ℕ) → total g old ≡ named_total g hs ss) → ((g : Named → ℕ) → total g old' ≡ named_total g (head_of t A) (side_terms t A)) →
       (g : Named → ℕ) → total (λ v. only (not (list_any (λ w. matching a b v w) old')) (g (v ++ rows.nulls (columns_of t A I)))) old
       ≡ named_total g (hs ++ head_of t A) (each_term (null_term (λ ps. not_in (list_of hs A a ps) (list_part A b ∷ []) (each_term (proj_term (list_of (head_of t A) A b)) (side_terms t A))) (head_of t A)) ss)
@@ -328,7 +328,7 @@ module _ (I : Instance) (A : List ℕ) (wide : (r : ℕ) → IsWide I r) where
   named_numbered r k (v ∷ row) = ap (λ w. cell r k v ∷ w) (named_numbered r (suc k) row)
 
   -- the rows of a table
-  law_input : (r : ℕ) (g : Named → ℕ) → total g (map (named r 0) (table I r)) ≡ named_total g (record { leaf = r; cols = Whole } ∷ []) (one_term (range_then (Rel r) no_ranges) no_conds (Of 0 0 Whole ∷ []))
+  pub law_input : (r : ℕ) (g : Named → ℕ) → total g (map (named r 0) (table I r)) ≡ named_total g (record { leaf = r; cols = Whole } ∷ []) (one_term (range_then (Rel r) no_ranges) no_conds (Of 0 0 Whole ∷ []))
   law_input r g =
       total-map g (named r 0) (table I r)
       ∙ total_ext _ (λ row. F (numbered 0 row ∷ [])) (table I r) (λ row.

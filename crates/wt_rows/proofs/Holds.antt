@@ -54,14 +54,14 @@ split_kept x xs ys b c P f g h q = go (has_split x xs ys h)
     go (inl k) = f k (and_parts b c q).0
     go (inr k) = g k (and_parts b c q).1
 
-parts4 : (a b c d : Bool) → (a && b && c && d) ≡ true → (a ≡ true) × (b ≡ true) × (c ≡ true) × (d ≡ true)
+pub parts4 : (a b c d : Bool) → (a && b && c && d) ≡ true → (a ≡ true) × (b ≡ true) × (c ≡ true) × (d ≡ true)
 parts4 true true true true h = (refl, refl, refl, refl)
 parts4 false b c d h = absurd (false≢true h)
 parts4 true false c d h = absurd (false≢true h)
 parts4 true true false d h = absurd (false≢true h)
 parts4 true true true false h = absurd (false≢true h)
 
-parts3 : (a b c : Bool) → (a && b && c) ≡ true → (a ≡ true) × (b ≡ true) × (c ≡ true)
+pub parts3 : (a b c : Bool) → (a && b && c) ≡ true → (a ≡ true) × (b ≡ true) × (c ≡ true)
 parts3 true true true h = (refl, refl, refl)
 parts3 false b c h = absurd (false≢true h)
 parts3 true false c h = absurd (false≢true h)
@@ -107,7 +107,7 @@ side_kept (in_sub a s t) A I u l h c = over_in s t A I a u l (λ h c. side_kept 
 side_kept (dedup s) A I u l h c = side_kept s A I u l h c
 
 -- the numbers are among the others
-all_among : (ns ms : List ℕ) → all_in ms ns ≡ true → Each (λ n. Has n ms) ns
+pub all_among : (ns ms : List ℕ) → all_in ms ns ≡ true → Each (λ n. Has n ms) ns
 all_among ns ms h = each_from_list_all (λ n. occurs n ms) (λ n. Has n ms) (λ n o. there n ms o) ns h
   where
     there : (n : ℕ) (ms : List ℕ) → occurs n ms ≡ true → Has n ms

@@ -28,3 +28,5 @@ pub mod Naming
 pub mod SideFits
 pub mod SideRows
 pub mod Translation
+pub mod Standing
+pub mod Composed

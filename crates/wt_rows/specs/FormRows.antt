@@ -12,7 +12,7 @@ use Rattle.wt_symbol.specs.declared.head.PartCols.{PartCols}
 use Rattle.wt_symbol.specs.declared.head.PartCols.TheVariants.{Whole, List as Listed}
 use Rattle.wt_form.specs.declared.form.Expr.{Expr}
 use Rattle.wt_form.specs.declared.form.Expr.TheVariants.{Of, Null as NullOf}
-use Rattle.wt_form.specs.Trees.{Terms, no_terms, term_then, Ranges, no_ranges, range_then, FormRange, Rel, distinct_of, Conds, no_conds, cond_then, Cond, Pred, Join, is_in, not_in}
+use Rattle.wt_form.specs.Trees.{Terms, no_terms, term_then, Ranges, no_ranges, range_then, FormRange, Rel, distinct_of, Conds, no_conds, cond_then, Cond, Pred, Join, is_in, not_in, Form}
 use Rattle.wt_instance.specs.declared.instance.Instance.{Instance}
 use Rattle.wt_instance.specs.Instances.{width, table, numbers, is_true}
 
@@ -107,3 +107,7 @@ abbrev mutual
   cond_holds (Join x y) I e = row_matches (values_of I e x) (values_of I e y)
   cond_holds (is_in x h ts) I e = list_any (λ row. row_matches (values_of I e x) (put_together row)) (terms_rows ts I)
   cond_holds (not_in x h ts) I e = not (list_any (λ row. row_matches (values_of I e x) (put_together row)) (terms_rows ts I))
+
+-- the rows of a form, their pieces put together
+abbrev pub form_rows : Form → Instance → List Tuple
+form_rows f I = map put_together (terms_rows f.terms I)

@@ -19,7 +19,8 @@ use Rattle.wt_instance.specs.declared.instance.Instance.{Instance}
 use Rattle.wt_rows.specs.FormRows.{FormRow, form_row_same, terms_rows}
 use Rattle.wt_rows.specs.Holding.{KnownHolds}
 use Rattle.wt_rows.specs.Fits.{HasPart, ExprFits, RowFits, RowsFit, TermsFit, RangesFit, CondFits, CondsFit, Fits}
-use Rattle.wt_rows.proofs.Sums.{Keeps, keeps_same}
+use Rattle.wt_rows.specs.Keeping.{Keeps}
+use Rattle.wt_rows.proofs.Sums.{keeps_same}
 use Rattle.wt_rows.proofs.Reading.{AreFilled, ranges_read, conds_filled, cond_filled}
 use Rattle.wt_rows.proofs.Pairs.{pair_keeps}
 use Rattle.wt_rows.proofs.Drops.{repeated_keeps, self_join_keeps, in_true_keeps, not_in_false_keeps, null_compared_keeps, not_in_of_null_keeps}

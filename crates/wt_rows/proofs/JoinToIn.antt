@@ -33,7 +33,8 @@ use Rattle.wt_form.specs.Places.{others, replaced}
 use Rattle.wt_form.specs.Changes.{expr_down}
 use Rattle.wt_form.specs.Joining.{Joined, JoinToIn}
 use Rattle.wt_rows.proofs.Reading.{RowReads, RangeReads}
-use Rattle.wt_rows.proofs.Sums.{form_rows_decide, term_total, total-one, ranges_rows-append, length-ranges_rows, Keeps, Alike, alike_same, alike_each, alike_all, keeps_alike}
+use Rattle.wt_rows.specs.Keeping.{Keeps}
+use Rattle.wt_rows.proofs.Sums.{form_rows_decide, term_total, total-one, ranges_rows-append, length-ranges_rows, Alike, alike_same, alike_each, alike_all, keeps_alike}
 use Rattle.wt_rows.proofs.Same.{matches_sym}
 use Rattle.wt_rows.proofs.Values.{picked, matched_equal}
 use Rattle.wt_rows.proofs.Vars.{get_here, value_down, conds_down, row_down, conds_map-middle}

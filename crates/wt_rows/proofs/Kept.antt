@@ -15,7 +15,7 @@ use Rattle.wt_instance.specs.declared.instance.Instance.{Instance}
 use Rattle.wt_rows.specs.FormRows.{FormRow, label, part_values}
 use Rattle.wt_value.proofs.Comparing.{row_same_decides}
 use Rattle.wt_rows.specs.Fits.{ValuesFit, RowFits}
-use Rattle.wt_rows.proofs.Sums.{Keeps}
+use Rattle.wt_rows.specs.Keeping.{Keeps}
 
 -- whether the values of a piece fit, and those of a row
 abbrev values_fit : Instance → ℕ → PartCols → Tuple → Bool

@@ -30,3 +30,4 @@ pub mod SideRows
 pub mod Translation
 pub mod Standing
 pub mod Composed
+pub mod Fixed

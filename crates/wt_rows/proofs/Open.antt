@@ -21,7 +21,8 @@ use Rattle.wt_bag.specs.Bags.{AtMostOne}
 use Rattle.wt_bag.proofs.TotalLaws.{total_swap}
 use Rattle.wt_bag.proofs.BagLaws.{distinct_is}
 use Rattle.wt_form.specs.Opening.{Opening, expr_opened, CondOpened, CondsOpened, PiecesOpened, Opened}
-use Rattle.wt_rows.proofs.Sums.{form_rows_decide, term_total, total-one, ranges_rows-append, length-ranges_rows, conds_hold-append, Keeps, Alike, alike_same, alike_then, alike_each, alike_all, keeps_alike}
+use Rattle.wt_rows.specs.Keeping.{Keeps}
+use Rattle.wt_rows.proofs.Sums.{form_rows_decide, term_total, total-one, ranges_rows-append, length-ranges_rows, conds_hold-append, Alike, alike_same, alike_then, alike_each, alike_all, keeps_alike}
 use Rattle.wt_rows.proofs.JoinToIn.{any_distinct}
 use Rattle.wt_rows.proofs.Steps.{alike_keeps}
 

@@ -22,7 +22,7 @@ use Rattle.wt_bag.specs.Bags.{AtMostOne}
 use Rattle.wt_bag.proofs.EachLaws.{each_append_left, each_of_filter_map}
 use Rattle.wt_form.specs.Opening.{expr_opened, take_part, Opened}
 use Rattle.wt_rows.proofs.Reading.{RowReads}
-use Rattle.wt_rows.proofs.Sums.{Keeps}
+use Rattle.wt_rows.specs.Keeping.{Keeps}
 use Rattle.wt_rows.proofs.Vars.{get_here, get_left}
 use Rattle.wt_rows.proofs.Open.{OfCond, opened_keeps}
 use Rattle.wt_rows.proofs.Take.{CutReadsAt, some_is, take_value}

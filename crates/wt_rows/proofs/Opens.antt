@@ -20,7 +20,7 @@ use Rattle.wt_instance.specs.declared.instance.Instance.{Instance}
 use Rattle.wt_instance.specs.Instances.{table, numbers}
 use Rattle.wt_rows.specs.FormRows.{Piece, Env, FormRow, form_row_same, numbered, label, labels, terms_rows, ranges_rows}
 use Rattle.wt_rows.specs.Fits.{AreOf, HasPart, ExprFits, RangesFit, CondsFit, RowFits}
-use Rattle.wt_rows.proofs.Sums.{Keeps}
+use Rattle.wt_rows.specs.Keeping.{Keeps}
 use Rattle.wt_rows.proofs.Reading.{RowReads, row_reads}
 use Rattle.wt_rows.proofs.Values.{InRange, Chosen, each_chosen}
 use Rattle.wt_rows.proofs.Rewrite.{cols_equal}

@@ -15,7 +15,8 @@ use Rattle.wt_rows.specs.Holding.{KnownHolds}
 use Rattle.wt_form.specs.Places.{others}
 use Rattle.wt_form.specs.TwoTerms.{TermSame, SplitByIn}
 use Rattle.wt_form.specs.Steps.{PairRow, in_first, in_second, twin}
-use Rattle.wt_rows.proofs.Sums.{term_total, total-term, total-one, conds_hold-middle, conds_hold-list, Keeps, keeps_same}
+use Rattle.wt_rows.specs.Keeping.{Keeps}
+use Rattle.wt_rows.proofs.Sums.{term_total, total-term, total-one, conds_hold-middle, conds_hold-list, keeps_same}
 use Rattle.wt_rows.proofs.Same.{Tied, term_congruent, placed, ranges_congruent, conds_congruent, cond_congruent}
 
 halves : (j o : Bool) (n : ℕ) → only (j && o) n + only (not j && o) n ≡ only o n

@@ -12,10 +12,9 @@ use Rattle.wt_symbol.specs.Sides.{SideTree, input, proj, filtered, inner_join, l
 use Rattle.wt_symbol.specs.Lawful.{occurs, counts_up, all_different, all_in, is_numbered, uses_symbols_of, visible_leaves, sees, stands, IsLawful}
 use Rattle.wt_symbol.specs.Heads.{anchor, head_of}
 use Rattle.wt_symbol.proofs.SymbolLemmas.{EachBelow, counted_below, among_below, lawful_stands}
-use Rattle.wt_constraint.specs.declared.set.AtomSet.{AtomSet}
 use Rattle.wt_instance.specs.declared.instance.Instance.{Instance}
 use Rattle.wt_instance.specs.Instances.{numbers, IsInstance}
-use Rattle.wt_instance.specs.Meeting.{comes_from, lists_come, Meets}
+use Rattle.wt_instance.specs.Meeting.{comes_from, lists_come}
 use Rattle.wt_rows.proofs.Reading.{AreFilled}
 use Rattle.wt_rows.proofs.Holds.{all_among, parts3, parts4}
 use Rattle.wt_rows.proofs.Naming.{ListStands}
@@ -244,7 +243,7 @@ counted_different n (x ∷ xs) h =
     let same : x ≡ n = eqb-true x n p.0 in
     and_from (not (occurs x xs)) (all_different xs) (ap not (later_absent x (suc n) xs p.1 (omega (arith, same)))) (counted_different (suc n) xs p.1)
 
-each_filled : (xs : List (List ℕ)) → Each (λ list. list ≢ []) xs → (a : ℕ) → a < length xs → slice_index_or xs a [] ≢ []
+pub each_filled : (xs : List (List ℕ)) → Each (λ list. list ≢ []) xs → (a : ℕ) → a < length xs → slice_index_or xs a [] ≢ []
 each_filled [] h a l = let bad : ⊥ = omega (arith, l) in absurd bad
 each_filled (x ∷ xs) h zero l = h.0
 each_filled (x ∷ xs) h (suc a) l = each_filled xs h.1 a (omega (arith, l))
@@ -268,11 +267,11 @@ module _ (p : PairTree) (lawful : IsLawful p) (I : Instance) (is : IsInstance p 
   preds : EachBelow (length I.trues) (preds_of p.source)
   preds = counted_below (length I.trues) 0 (preds_of p.source) numbered.2 (omega (arith, is.parts.trues))
 
-  pub source_stands : (set : AtomSet) → Meets p set I → SideStands I p.anchors p.source
-  source_stands set met = side_lists_stand I p.anchors p.source (lawful_stands p lawful).0 (counted_different 0 (leaves_of p.source) numbered.0) met.source leaves lists preds
+  pub source_stands : lists_come p.source p.anchors I ≡ true → SideStands I p.anchors p.source
+  source_stands come = side_lists_stand I p.anchors p.source (lawful_stands p lawful).0 (counted_different 0 (leaves_of p.source) numbered.0) come leaves lists preds
 
-  pub dest_stands : (set : AtomSet) → Meets p set I → SideStands I p.anchors p.dest
-  dest_stands set met = side_lists_stand I p.anchors p.dest (lawful_stands p lawful).1 symbols.3 met.dest
+  pub dest_stands : lists_come p.dest p.anchors I ≡ true → SideStands I p.anchors p.dest
+  dest_stands come = side_lists_stand I p.anchors p.dest (lawful_stands p lawful).1 symbols.3 come
       (among_below (length I.tables) (leaves_of p.source) (leaves_of p.dest) leaves used.0) (among_below (length I.lists) (lists_of p.source) (lists_of p.dest) lists used.1) (among_below (length I.trues) (preds_of p.source) (preds_of p.dest) preds used.2)
 
   pub filled : AreFilled I

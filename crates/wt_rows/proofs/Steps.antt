@@ -18,7 +18,8 @@ use Rattle.wt_form.specs.Opening.{Opened}
 use Rattle.wt_form.specs.Steps.{Table, PairTable, Row, by_repeated, by_opened, by_self_join, by_in_true, by_join_to_in, by_merged, by_not_in_false, by_null_compared, by_not_in_of_null, by_rewritten, PairRow, TermsStep, at_term, at_two, later_term, in_range, in_cond, RangesStep, at_range, later_range, CondsStep, at_in, at_not_in, later_cond, Step}
 use Rattle.wt_symbol.specs.declared.head.Part.{Part}
 use Rattle.wt_rows.specs.Fits.{ExprFits, TermsFit, RangesFit, CondsFit}
-use Rattle.wt_rows.proofs.Sums.{form_rows_decide, term_total, total-term, total-one, total-terms_append, Keeps, keeps_same, Alike, alike_same, alike_then, alike_add, keeps_alike, positive_sum}
+use Rattle.wt_rows.specs.Keeping.{Keeps}
+use Rattle.wt_rows.proofs.Sums.{form_rows_decide, term_total, total-term, total-one, total-terms_append, keeps_same, Alike, alike_same, alike_then, alike_add, keeps_alike, positive_sum}
 use Rattle.wt_rows.proofs.Pairs.{pair_keeps}
 use Rattle.wt_rows.proofs.Drops.{repeated_keeps, self_join_keeps, in_true_keeps, not_in_false_keeps, null_compared_keeps, not_in_of_null_keeps}
 use Rattle.wt_rows.proofs.Merge.{merged_keeps}

@@ -13,6 +13,7 @@ use Rattle.wt_form.specs.declared.form.Expr.{Expr}
 use Rattle.wt_form.specs.Trees.{Terms, no_terms, term_then, Ranges, no_ranges, range_then, Conds, no_conds, cond_then, Cond}
 use Rattle.wt_form.specs.Parts.{one_term, terms_append, ranges_append, conds_append, terms_count, ranges_count, ranges_list, conds_list, ranges_at, conds_at, pieces_at, terms_without}
 use Rattle.wt_instance.specs.declared.instance.Instance.{Instance}
+use Rattle.wt_rows.specs.Keeping.{Keeps}
 use Rattle.wt_rows.specs.FormRows.{Env, FormRow, form_row_same, row_of, one_rows, terms_rows, ranges_rows, range_rows, conds_hold, cond_holds}
 use Rattle.std.proofs.lemmas.Slice.Eq.{slice_eq-Decides}
 
@@ -88,11 +89,6 @@ ranges_rows-append I (range_then r rs) ss = ap (λ l. range_rows r I ∷ l) (ran
 pub length-ranges_rows : (I : Instance) (rs : Ranges) → length (ranges_rows rs I) ≡ ranges_count rs
 length-ranges_rows I no_ranges = refl
 length-ranges_rows I (range_then r rs) = omega (arith, length-ranges_rows I rs)
-
--- the bag at the top, and the elements inside
-abbrev pub Keeps : Bool → List FormRow → List FormRow → Type 0
-Keeps false xs ys = SameSums xs ys
-Keeps true xs ys = SameElements xs ys
 
 pub keeps_same : (k : Bool) (xs ys : List FormRow) → SameSums xs ys → Keeps k xs ys
 keeps_same false xs ys h = h

@@ -1,10 +1,10 @@
 -- Where a pair is provable under a set, both sides give one bag on every instance that meets the set.
-use Rattle.std.proofs.Common.{ℕ, Bool, true, List, map, ◌≡◌, refl, sym, ap, ◌∙◌}
-use Rattle.wt_bag.specs.Bags.{total, SameSums, OneBag}
+use Rattle.std.proofs.Common.{ℕ, Bool, true, List, map, ◌≡◌, sym, ◌∙◌}
+use Rattle.wt_bag.specs.Bags.{SameSums}
 use Rattle.wt_bag.proofs.BagLaws.{one_bag}
 use Rattle.wt_bag.proofs.TotalLaws.{total-map}
-use Rattle.wt_value.specs.Values.{Tuple, row_same, IsOneBag}
-use Rattle.wt_symbol.specs.Sides.{SideTree, PairTree}
+use Rattle.wt_value.specs.Values.{row_same, IsOneBag}
+use Rattle.wt_symbol.specs.Sides.{PairTree}
 use Rattle.wt_symbol.specs.Lawful.{IsLawful}
 use Rattle.wt_constraint.specs.declared.set.AtomSet.{AtomSet}
 use Rattle.wt_symbol.specs.declared.head.Part.{Part}
@@ -31,7 +31,7 @@ use Rattle.wt_rows.proofs.Pairs.{pair_keeps}
 use Rattle.wt_rows.specs.Holding.{KnownHolds}
 use Rattle.wt_rows.proofs.Same.{terms_congruent}
 use Rattle.wt_rows.proofs.Holds.{known_holds}
-use Rattle.wt_rows.proofs.SideFits.{SideStands, side_fits}
+use Rattle.wt_rows.proofs.SideFits.{side_fits}
 use Rattle.wt_rows.proofs.Translation.{translated}
 use Rattle.wt_rows.proofs.Standing.{source_stands, dest_stands, filled, each_filled}
 use Rattle.wt_rows.proofs.FitSteps.{row_keeps_rows, step_rows, terms_fit, step_keeps, chain_keeps}

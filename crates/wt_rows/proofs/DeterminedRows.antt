@@ -1,32 +1,29 @@
 -- Where each variable of a term is determined, no row of it comes twice.
-use Rattle.std.proofs.Common.{ℕ, zero, suc, ◌+◌, ◌<◌, ◌≤◌, Bool, true, false, ◌&&◌, not, List, [], ◌∷◌, ◌++◌, map, filter, ◌≡◌, refl, sym, ap, ◌∙◌, subst, ◌⊎◌, inl, inr, Some, cond, length, arith}
-use Rattle.std.specs.Prelude.{slice_get, slice_index_or, ◌≢◌}
+use Rattle.std.proofs.Common.{ℕ, zero, suc, ◌+◌, ◌<◌, ◌≤◌, Bool, true, false, ◌&&◌, not, List, [], ◌∷◌, map, filter, ◌≡◌, refl, sym, ap, ◌∙◌, subst, inl, inr, Some, cond, length, arith}
+use Rattle.std.specs.Prelude.{slice_get, slice_index_or}
 use Rattle.std.proofs.lemmas.Bool.{and_parts, false≢true}
-use Rattle.wt_bag.specs.Bags.{total, only, Each, AtMostOne, PassesEqualOnly, distinct}
+use Rattle.wt_bag.specs.Bags.{only, Each, AtMostOne, PassesEqualOnly, distinct}
 use Rattle.wt_bag.specs.Choices.{choices, Fitting, At, Has, EachLater}
 use Rattle.wt_bag.proofs.TotalLaws.{total_ext, only-and}
 use Rattle.wt_bag.proofs.EachLaws.{each_filter, each_implies, each_distinct}
-use Rattle.wt_bag.proofs.UniqueLists.{each_has, each_get, unique_place}
+use Rattle.wt_bag.proofs.UniqueLists.{each_get, unique_place}
 use Rattle.wt_bag.proofs.TaggedChoices.{untag, Stands, at_most_one_choice}
 use Rattle.wt_value.specs.declared.value.Value.{Value}
 use Rattle.wt_value.specs.Values.{Tuple, pick, HasNoNull, value_at, row_matches}
-use Rattle.wt_value.proofs.Comparing.{row_matches-Decides}
 use Rattle.wt_symbol.specs.declared.head.Part.{Part}
-use Rattle.wt_symbol.specs.declared.head.PartCols.{PartCols}
 use Rattle.wt_symbol.specs.declared.head.PartCols.TheVariants.{Whole, List as Listed}
 use Rattle.wt_form.specs.declared.form.Expr.{Expr}
 use Rattle.wt_form.specs.declared.form.Expr.TheVariants.{Of, Null as NullOf}
-use Rattle.wt_form.specs.Trees.{Terms, Ranges, no_ranges, range_then, FormRange, Rel, distinct_of, Conds, Cond}
-use Rattle.wt_form.specs.Parts.{one_term, ranges_count, ranges_list, conds_list}
+use Rattle.wt_form.specs.Trees.{Terms, Ranges, no_ranges, range_then, Rel, distinct_of, Conds}
+use Rattle.wt_form.specs.Parts.{one_term, ranges_list, conds_list}
 use Rattle.wt_form.specs.Known.{Known}
-use Rattle.wt_form.specs.Facts.{Joins, IsOver, HoldsParts, NotNull, Determined, by_whole_row, by_columns, by_join, by_parts}
+use Rattle.wt_form.specs.Facts.{IsOver, HoldsParts, NotNull, Determined, by_whole_row, by_columns, by_join, by_parts}
 use Rattle.wt_form.specs.Opening.{AllDetermined}
 use Rattle.wt_instance.specs.declared.instance.Instance.{Instance}
 use Rattle.wt_instance.specs.Instances.{table, numbers}
-use Rattle.wt_instance.specs.Meeting.{IsUnique}
-use Rattle.wt_rows.specs.FormRows.{Piece, Env, FormRow, form_row_same, values_in, numbered, label, labels, part_values, values_of, row_of, terms_rows, ranges_rows, range_rows, conds_hold, cond_holds}
+use Rattle.wt_rows.specs.FormRows.{Piece, Env, FormRow, form_row_same, values_in, numbered, label, labels, part_values, values_of, row_of, terms_rows, ranges_rows, range_rows, conds_hold}
 use Rattle.wt_rows.specs.Holding.{KnownHolds}
-use Rattle.wt_rows.proofs.Sums.{form_rows_decide, term_total, total-one, cond_there, length-ranges_rows}
+use Rattle.wt_rows.proofs.Sums.{form_rows_decide, total-one, cond_there, length-ranges_rows}
 use Rattle.wt_rows.proofs.Reading.{RowReads, RangeReads, values_numbered}
 use Rattle.wt_rows.proofs.Values.{InRange, each_in_range, Chosen, values_picked, matched_equal, matched_not_null, matches_itself, joined_match, not_null}
 
@@ -53,9 +50,10 @@ not_true false h = refl
 
 distinct_apart : {X : Type 0} (same : X → X → Bool) (xs : List X) → EachLater (λ x y. same x y ≡ false) (distinct same xs)
 distinct_apart same [] = tt
-distinct_apart same (x ∷ xs) =
-    (each_implies (λ y. not (same x y) ≡ true) (λ y. same x y ≡ false) (filter (λ y. not (same x y)) (distinct same xs)) (λ y h. not_true (same x y) h) (each_passes (λ y. not (same x y)) (distinct same xs)),
-    later_filter (λ x y. same x y ≡ false) (λ y. not (same x y)) (distinct same xs) (distinct_apart same xs))
+distinct_apart same (x ∷ xs) = (
+  each_implies (λ y. not (same x y) ≡ true) (λ y. same x y ≡ false) (filter (λ y. not (same x y)) (distinct same xs)) (λ y h. not_true (same x y) h) (each_passes (λ y. not (same x y)) (distinct same xs)),
+  later_filter (λ x y. same x y ≡ false) (λ y. not (same x y)) (distinct same xs) (distinct_apart same xs),
+)
 
 -- the element of a mapped list at a place
 from_mapped : {X Y : Type 0} (f : X → Y) (xs : List X) (i : ℕ) (y : Y) → slice_get (map f xs) i ≡ Some y → (x : X) × (slice_get xs i ≡ Some x) × (y ≡ f x)
@@ -212,7 +210,7 @@ module _ (K : Known) (I : Instance) (means : KnownHolds K I) (rs : Ranges) (cs :
         let m = joined_match K I means (untag e) (Of u 0 (Listed c')) x q joins (cond_there I (untag e) q cs has held) in
         let m' = joined_match K I means (untag e') (Of u 0 (Listed c')) x q joins (cond_there I (untag e') q cs has held') in
         let vals : pick (numbers I c') row ≡ pick (numbers I c') row' =
-            sym (values_picked I (untag e) u c' row p) ∙ matched_equal _ _ m ∙ over_same w x over (agree w d) ∙ sym (matched_equal _ _ m') ∙ values_picked I (untag e') u c' row' p' in
+        sym (values_picked I (untag e) u c' row p) ∙ matched_equal _ _ m ∙ over_same w x over (agree w d) ∙ sym (matched_equal _ _ m') ∙ values_picked I (untag e') u c' row' p' in
         let full : HasNoNull (pick (numbers I c') row) = subst HasNoNull (values_picked I (untag e) u c' row p) (matched_not_null _ _ m) in
         subst (λ ns. row_matches (pick ns row) (pick ns row') ≡ true) (means.lists c' c same)
         (ap (row_matches (pick (numbers I c') row)) (sym vals) ∙ matches_itself (pick (numbers I c') row) full))
@@ -224,10 +222,10 @@ module _ (K : Known) (I : Instance) (means : KnownHolds K I) (rs : Ranges) (cs :
         let r = each_get (RowReads I h) (distinct form_row_same (terms_rows ts I)) (at u).0 p.0 kept p.1 in
         let r' = each_get (RowReads I h) (distinct form_row_same (terms_rows ts I)) (at' u).0 p'.0 kept p'.1 in
         let rows : p.0 ≡ p'.0 = rows_read I (untag e) (untag e') u ps h p.0 p'.0 0 r r' one holds
-            (λ j. ap (λ z. slice_index_or z (0 + j) []) (untag_at e u ∙ p.2) ∙ ap (λ i. slice_index_or (labels I h p.0) i []) (let z : 0 + j ≡ j = omega arith in z))
-            (λ j. ap (λ z. slice_index_or z (0 + j) []) (untag_at e' u ∙ p'.2) ∙ ap (λ i. slice_index_or (labels I h p'.0) i []) (let z : 0 + j ≡ j = omega arith in z)) in
+        (λ j. ap (λ z. slice_index_or z (0 + j) []) (untag_at e u ∙ p.2) ∙ ap (λ i. slice_index_or (labels I h p.0) i []) (let z : 0 + j ≡ j = omega arith in z))
+        (λ j. ap (λ z. slice_index_or z (0 + j) []) (untag_at e' u ∙ p'.2) ∙ ap (λ i. slice_index_or (labels I h p'.0) i []) (let z : 0 + j ≡ j = omega arith in z)) in
         let place : (at u).0 ≡ (at' u).0 = unique_place form_row_same same_passes_equal (λ z. z) (distinct form_row_same (terms_rows ts I)) (at u).0 (at' u).0 p.0 p'.0 (distinct_apart form_row_same (terms_rows ts I)) p.1 p'.1
-            (ap (form_row_same p.0) (sym rows) ∙ form_rows_decide.reflexive p.0) in
+        (ap (form_row_same p.0) (sym rows) ∙ form_rows_decide.reflexive p.0) in
         pair_equal (at u) (at' u) place (p.2 ∙ ap (labels I h) rows ∙ sym p'.2)
 
   -- each row of the term comes at most once

@@ -1,19 +1,16 @@
 -- What the expressions of a term that fits name.
-use Rattle.std.proofs.Common.{ℕ, zero, suc, ◌+◌, ◌<◌, List, [], ◌∷◌, ◌≡◌, refl, sym, ap, ◌∙◌, subst, arith}
+use Rattle.std.proofs.Common.{ℕ, zero, suc, ◌+◌, ◌<◌, List, [], ◌∷◌, ◌≡◌, subst, arith}
 use Rattle.wt_bag.specs.Bags.{Each}
 use Rattle.wt_bag.specs.Choices.{At}
-use Rattle.wt_bag.proofs.EachLaws.{each_implies}
-use Rattle.wt_symbol.specs.declared.head.PartCols.{PartCols}
 use Rattle.wt_form.specs.declared.form.Expr.{Expr}
 use Rattle.wt_form.specs.declared.form.Expr.TheVariants.{Of, Null as NullOf}
-use Rattle.wt_form.specs.Trees.{Ranges, no_ranges, range_then, FormRange, Rel, distinct_of, Conds, no_conds, cond_then, Cond, Pred, Join, is_in, not_in}
-use Rattle.wt_form.specs.Parts.{ranges_append, ranges_count, ranges_list, conds_append, conds_list}
+use Rattle.wt_form.specs.Trees.{Ranges, no_ranges, range_then, FormRange, Rel, Conds, no_conds, cond_then, Cond, Pred, Join, is_in, not_in}
+use Rattle.wt_form.specs.Parts.{ranges_append, ranges_count, ranges_list, conds_list}
 use Rattle.wt_form.specs.Closed.{IsWithin}
 use Rattle.wt_instance.specs.declared.instance.Instance.{Instance}
-use Rattle.wt_rows.specs.Fits.{HasPart, ExprFits, RangeFits, RangesFit, CondFits, CondsFit}
+use Rattle.wt_rows.specs.Fits.{HasPart, ExprFits, RangesFit, CondFits, CondsFit}
 use Rattle.wt_rows.proofs.Open.{OfCond}
 use Rattle.wt_rows.proofs.Values.{OnePart}
-
 
 pub at_within : (P : FormRange → Type 0) (v : ℕ) (rs : Ranges) → At P v (ranges_list rs) → v < ranges_count rs
 at_within P v no_ranges h = absurd h

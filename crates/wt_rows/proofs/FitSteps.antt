@@ -1,6 +1,5 @@
 -- A step of a form that fits gives a form that fits, and keeps its rows.
-use Rattle.std.proofs.Common.{ℕ, zero, suc, ◌<◌, Bool, true, false, List, [], ◌∷◌, ◌≡◌, refl, sym, ap, ◌∙◌, subst, ◌⊎◌, inl, inr, length}
-use Rattle.std.specs.Prelude.{◌≢◌}
+use Rattle.std.proofs.Common.{ℕ, zero, suc, Bool, true, false, List, ◌≡◌, refl, sym, ◌∙◌, subst, ◌⊎◌, inl, inr}
 use Rattle.wt_bag.specs.Bags.{Each, SameSums, AtMostOne}
 use Rattle.wt_bag.specs.Choices.{At}
 use Rattle.wt_bag.proofs.EachLaws.{each_implies}
@@ -8,17 +7,16 @@ use Rattle.wt_symbol.specs.declared.head.Part.{Part}
 use Rattle.wt_symbol.specs.declared.head.PartCols.{PartCols}
 use Rattle.wt_form.specs.declared.form.Expr.{Expr}
 use Rattle.wt_form.specs.declared.form.Expr.TheVariants.{Of, Null as NullOf}
-use Rattle.wt_form.specs.Trees.{Terms, no_terms, term_then, Ranges, no_ranges, range_then, FormRange, Rel, distinct_of, Conds, no_conds, cond_then, Cond, Pred, Join, is_in, not_in, Form}
-use Rattle.wt_form.specs.Parts.{one_term, terms_append, ranges_list, conds_list}
+use Rattle.wt_form.specs.Trees.{Terms, term_then, Ranges, range_then, distinct_of, Conds, no_conds, cond_then, Cond, Pred, Join, is_in, not_in, Form}
+use Rattle.wt_form.specs.Parts.{one_term, terms_append, ranges_list}
 use Rattle.wt_form.specs.Known.{Known}
-use Rattle.wt_form.specs.Congruent.{Congruent}
 use Rattle.wt_form.specs.Opening.{AllDetermined}
 use Rattle.wt_form.specs.Steps.{Row, by_repeated, by_self_join, by_in_true, by_join_to_in, by_merged, by_not_in_false, by_null_compared, by_not_in_of_null, by_opened, by_rewritten, PairRow, TermsStep, at_term, at_two, later_term, in_range, in_cond, RangesStep, at_range, later_range, CondsStep, at_in, at_not_in, later_cond, Step}
 use Rattle.wt_form.specs.Provable.{Chain}
 use Rattle.wt_instance.specs.declared.instance.Instance.{Instance}
 use Rattle.wt_rows.specs.FormRows.{FormRow, form_row_same, terms_rows}
 use Rattle.wt_rows.specs.Holding.{KnownHolds}
-use Rattle.wt_rows.specs.Fits.{HasPart, ExprFits, RowFits, RowsFit, TermsFit, RangesFit, CondFits, CondsFit, Fits}
+use Rattle.wt_rows.specs.Fits.{HasPart, ExprFits, RowsFit, TermsFit, RangesFit, CondFits, CondsFit, Fits}
 use Rattle.wt_rows.specs.Keeping.{Keeps}
 use Rattle.wt_rows.proofs.Sums.{keeps_same}
 use Rattle.wt_rows.proofs.Reading.{AreFilled, ranges_read, conds_filled, cond_filled}
@@ -29,11 +27,10 @@ use Rattle.wt_rows.proofs.Rewrite.{rewritten_keeps}
 use Rattle.wt_rows.proofs.JoinToIn.{join_to_in_keeps}
 use Rattle.wt_rows.proofs.Opens.{opened_fits_keeps}
 use Rattle.wt_rows.proofs.DeterminedRows.{once}
-use Rattle.wt_rows.proofs.Steps.{terms_sound}
+use Rattle.wt_rows.proofs.TermSteps.{terms_sound}
 use Rattle.wt_rows.proofs.Kept.{kept_rows_fit}
 use Rattle.wt_rows.proofs.Exist.{expr_one, ranges_right}
 use Rattle.wt_rows.proofs.MapsFit.{conds_there}
-use Rattle.wt_rows.proofs.Moving.{at_implies}
 use Rattle.wt_rows.proofs.StayFit.{row_stays, pair_stays, terms_put, terms_left, terms_right}
 
 module _ (K : Known) (I : Instance) (means : KnownHolds K I) (filled : AreFilled I) where

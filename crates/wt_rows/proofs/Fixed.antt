@@ -1,6 +1,6 @@
 -- The fixed constraints, said of a side in two ways: each list comes from its anchor through what is below it; or its
 -- columns are those of its anchor, and those of each list that a Proj keeps on the way.
-use Rattle.std.proofs.Common.{ℕ, Bool, true, false, ◌&&◌, List, [], ◌∷◌, ◌++◌, ◌≡◌, ◌↔◌, refl}
+use Rattle.std.proofs.Common.{ℕ, Bool, true, false, ◌&&◌, List, ◌∷◌, ◌++◌, ◌≡◌, refl}
 use Rattle.std.specs.Prelude.{nat_lt, if◌then◌else◌}
 use Rattle.std.specs.List.{list_all}
 use Rattle.std.proofs.lemmas.Bool.{and_parts, and_from}
@@ -64,10 +64,11 @@ module _ (I : Instance) where
         Each (IsKept I) (below a (way_down s (anchor A a)) ++ below b (way_down t (anchor A b)) ++ kept_below s A ++ kept_below t A) × Each (IsOfLeaf A I) (a ∷ b ∷ (lists_of s ++ lists_of t))
     two s t a b c d h k =
         let p = comes_parts s (anchor A a) a c in
-        let q = comes_parts t (anchor A b) b d in
-        (each_append (IsKept I) ((below a (way_down s (anchor A a)) ++ below b (way_down t (anchor A b))) ++ kept_below s A) (kept_below t A)
-        (each_append (IsKept I) (below a (way_down s (anchor A a)) ++ below b (way_down t (anchor A b))) (kept_below s A) (each_append (IsKept I) (below a (way_down s (anchor A a))) (below b (way_down t (anchor A b))) p.0 q.0) h.0) k.0,
-        (p.1, (q.1, each_append (IsOfLeaf A I) (lists_of s) (lists_of t) h.1 k.1)))
+        let q = comes_parts t (anchor A b) b d in (
+          each_append (IsKept I) ((below a (way_down s (anchor A a)) ++ below b (way_down t (anchor A b))) ++ kept_below s A) (kept_below t A)
+              (each_append (IsKept I) (below a (way_down s (anchor A a)) ++ below b (way_down t (anchor A b))) (kept_below s A) (each_append (IsKept I) (below a (way_down s (anchor A a))) (below b (way_down t (anchor A b))) p.0 q.0) h.0) k.0,
+          (p.1, (q.1, each_append (IsOfLeaf A I) (lists_of s) (lists_of t) h.1 k.1)),
+        )
 
     pub side_said : (s : SideTree) → lists_come s A I ≡ true → Said s
     side_said (input r) c = (tt, tt)

@@ -9,7 +9,7 @@ pub mod Vars
 pub mod Merge
 pub mod Rewrite
 pub mod JoinToIn
-pub mod Steps
+pub mod TermSteps
 pub mod Open
 pub mod Holds
 pub mod Take

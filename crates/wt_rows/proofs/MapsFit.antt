@@ -1,7 +1,7 @@
 -- Terms with other expressions fit where these do.
-use Rattle.std.proofs.Common.{ℕ, ◌<◌, Bool, true, false, cond, ltb, List, [], ◌∷◌, map, ◌≡◌, refl, sym, ap, ◌∙◌, subst, ◌⊎◌, inl, inr, arith, eqb-true, eq-eqb}
+use Rattle.std.proofs.Common.{ℕ, ◌<◌, Bool, true, false, cond, List, [], ◌∷◌, map, ◌≡◌, refl, sym, ◌∙◌, subst, ◌⊎◌, inl, inr, arith, eqb-true, eq-eqb}
 use Rattle.std.specs.Prelude.{nat_eq, nat_lt, ◌-◌}
-use Rattle.std.proofs.lemmas.Bool.{lt-ltb, le-ltb, cases_order, ne_eqb}
+use Rattle.std.proofs.lemmas.Bool.{lt-ltb, le-ltb, cases_order}
 use Rattle.wt_bag.specs.Bags.{Each}
 use Rattle.wt_bag.specs.Choices.{At}
 use Rattle.wt_symbol.specs.declared.head.Part.{Part}
@@ -9,12 +9,12 @@ use Rattle.wt_symbol.specs.declared.head.PartCols.{PartCols}
 use Rattle.wt_symbol.specs.declared.head.PartCols.TheVariants.{Whole, List as Listed}
 use Rattle.wt_form.specs.declared.form.Expr.{Expr}
 use Rattle.wt_form.specs.declared.form.Expr.TheVariants.{Of, Null as NullOf}
-use Rattle.wt_form.specs.Trees.{Ranges, range_then, FormRange, Rel, distinct_of, Conds, no_conds, cond_then, Cond, Pred, Join, is_in, not_in}
+use Rattle.wt_form.specs.Trees.{Ranges, range_then, FormRange, Rel, Conds, no_conds, cond_then, Cond, Pred, Join, is_in, not_in}
 use Rattle.wt_form.specs.Parts.{ranges_append, ranges_count, ranges_list, conds_append, conds_map, cond_map, conds_list, expr_up}
 use Rattle.wt_form.specs.Facts.{IsOver}
 use Rattle.wt_form.specs.Changes.{put, expr_eq, expr_down, expr_onto, CondAvoids}
 use Rattle.wt_instance.specs.declared.instance.Instance.{Instance}
-use Rattle.wt_rows.specs.Fits.{HasPart, ExprFits, HasList, IsListed, IsPiece, Aligned, CondFits, CondsFit}
+use Rattle.wt_rows.specs.Fits.{HasPart, ExprFits, IsListed, IsPiece, Aligned, CondFits, CondsFit}
 use Rattle.wt_rows.proofs.Open.{OfCond}
 use Rattle.std.proofs.lemmas.Bool.{false≢true}
 use Rattle.wt_rows.proofs.Exist.{at_behind}
@@ -110,9 +110,11 @@ onto_fits I rs s ss x r l over (Of v i c) u h = go (nat_eq v (ranges_count rs)) 
   where
     go : (b : Bool) → nat_eq v (ranges_count rs) ≡ b → ExprFits I (ranges_append rs ss) (cond b (Of x i c) (expr_down (ranges_count rs) (Of v i c)))
     go true e =
-        let zero_part : i ≡ 0 = at_behind (λ range. HasPart I range i c) rs (Rel s) ss (subst (λ z. At (λ range. HasPart I range i c) z (ranges_list (ranges_append rs (range_then (Rel s) ss)))) (eqb-true v (ranges_count rs) e) h.0) in
-        (at_before (λ range. HasPart I range i c) rs (range_then (Rel s) ss) ss x l
-        (at_implies (λ range. range ≡ Rel r) (λ range. HasPart I range i c) (λ range q. subst (λ z. HasPart I z i c) (sym q) zero_part) x (ranges_list (ranges_append rs (range_then (Rel s) ss))) over), h.1)
+        let zero_part : i ≡ 0 = at_behind (λ range. HasPart I range i c) rs (Rel s) ss (subst (λ z. At (λ range. HasPart I range i c) z (ranges_list (ranges_append rs (range_then (Rel s) ss)))) (eqb-true v (ranges_count rs) e) h.0) in (
+          at_before (λ range. HasPart I range i c) rs (range_then (Rel s) ss) ss x l
+              (at_implies (λ range. range ≡ Rel r) (λ range. HasPart I range i c) (λ range q. subst (λ z. HasPart I z i c) (sym q) zero_part) x (ranges_list (ranges_append rs (range_then (Rel s) ss))) over),
+          h.1,
+        )
     go false e = down_fits I rs (Rel s) ss (Of v i c) (λ q. absurd (false≢true (sym e ∙ eq-eqb v (ranges_count rs) q))) h
 
 pub onto_listed : (x y : ℕ) (e : Expr) → IsListed e → IsListed (expr_onto x y e)

@@ -1,5 +1,5 @@
 -- Ranges by their places, when others are put before or between them.
-use Rattle.std.proofs.Common.{ℕ, zero, suc, ◌+◌, ◌-◌, ◌<◌, ◌≤◌, List, [], ◌∷◌, ◌≡◌, refl, sym, ap, ◌∙◌, subst, arith}
+use Rattle.std.proofs.Common.{ℕ, zero, suc, ◌+◌, ◌-◌, ◌<◌, List, [], ◌∷◌, ◌≡◌, subst, arith}
 use Rattle.wt_bag.specs.Choices.{At}
 use Rattle.wt_form.specs.Trees.{Ranges, no_ranges, range_then, FormRange}
 use Rattle.wt_form.specs.Parts.{ranges_append, ranges_count, ranges_list}

@@ -1,14 +1,11 @@
 -- The rows of a form with the names of their columns.
-use Rattle.std.proofs.Common.{ℕ, zero, suc, ◌+◌, ◌<◌, Bool, true, false, ◌&&◌, cond, List, [], ◌∷◌, ◌++◌, map, ◌≡◌, refl, sym, ap, ◌∙◌, subst, ◌⊎◌, inl, inr, arith, eqb-true, eq-eqb}
+use Rattle.std.proofs.Common.{ℕ, true, false, ◌&&◌, cond, List, [], ◌∷◌, ◌++◌, map, ◌≡◌, refl, sym, ap, ◌∙◌, subst, ◌⊎◌, inl, inr}
 use Rattle.std.specs.Prelude.{nat_eq, slice_index_or, ◌==◌, if◌then◌else◌}
-use Rattle.std.proofs.lemmas.List.{append_assoc, map-append}
-use Rattle.std.proofs.lemmas.Bool.{false≢true}
 use Rattle.wt_bag.specs.Bags.{Each}
-use Rattle.wt_bag.specs.Choices.{At, Has}
+use Rattle.wt_bag.specs.Choices.{Has}
 use Rattle.wt_bag.proofs.EachLaws.{each_implies}
 use Rattle.wt_value.specs.declared.value.Value.{Value}
 use Rattle.wt_value.specs.declared.value.Value.TheVariants.{Null}
-use Rattle.wt_value.specs.Values.{Tuple}
 use Rattle.wt_symbol.specs.declared.head.Part.{Part}
 use Rattle.wt_symbol.specs.declared.head.PartCols.{PartCols}
 use Rattle.wt_symbol.specs.declared.head.PartCols.TheVariants.{Whole, List as Listed}
@@ -19,12 +16,12 @@ use Rattle.wt_form.specs.Parts.{ranges_list}
 use Rattle.wt_form.specs.FormOf.{expr_with, list_expr}
 use Rattle.wt_instance.specs.declared.instance.Instance.{Instance}
 use Rattle.wt_instance.specs.Instances.{numbers}
-use Rattle.wt_instance.specs.Rows.{Named, cell, values, value_at}
-use Rattle.wt_rows.specs.FormRows.{Piece, Env, FormRow, values_in, numbered, beside, label, number_at, part_values, null_values, values_of, row_of, put_together}
+use Rattle.wt_instance.specs.Rows.{Named, cell, value_at}
+use Rattle.wt_rows.specs.FormRows.{Piece, Env, FormRow, values_in, numbered, beside, label, number_at, null_values, values_of, row_of}
 use Rattle.wt_rows.specs.Fits.{AreOf, ExprFits}
 use Rattle.wt_rows.proofs.Reading.{values_numbered}
 use Rattle.wt_rows.proofs.Values.{Chosen}
-use Rattle.wt_rows.proofs.Take.{beside_each, beside_reads, number_of_null, label_nulls, null_each}
+use Rattle.wt_rows.proofs.Take.{beside_reads, number_of_null, label_nulls, null_each}
 use Rattle.wt_rows.proofs.Opens.{whole_chosen}
 
 -- a piece whose columns are those of a leaf

@@ -1,5 +1,5 @@
 -- A variable over a nested form of one term is opened.
-use Rattle.std.proofs.Common.{ℕ, ◌+◌, ◌<◌, Bool, true, false, ◌&&◌, List, [], ◌∷◌, ◌++◌, map, ◌≡◌, refl, sym, ap, ◌∙◌, subst, length, ◌⊎◌, inl, inr}
+use Rattle.std.proofs.Common.{ℕ, ◌+◌, Bool, true, false, ◌&&◌, List, [], ◌∷◌, ◌++◌, map, ◌≡◌, refl, sym, ap, ◌∙◌, subst, length, ◌⊎◌, inl, inr}
 use Rattle.std.specs.Prelude.{slice_index_or}
 use Rattle.wt_bag.specs.Bags.{total, only, Each, distinct}
 use Rattle.wt_bag.specs.Choices.{choices}
@@ -24,7 +24,7 @@ use Rattle.wt_form.specs.Opening.{Opening, expr_opened, CondOpened, CondsOpened,
 use Rattle.wt_rows.specs.Keeping.{Keeps}
 use Rattle.wt_rows.proofs.Sums.{form_rows_decide, term_total, total-one, ranges_rows-append, length-ranges_rows, conds_hold-append, Alike, alike_same, alike_then, alike_each, alike_all, keeps_alike}
 use Rattle.wt_rows.proofs.JoinToIn.{any_distinct}
-use Rattle.wt_rows.proofs.Steps.{alike_keeps}
+use Rattle.wt_rows.proofs.TermSteps.{alike_keeps}
 
 abbrev pub OfCond : (Expr → Type 0) → Cond → Type 0
 OfCond P (Pred p x) = P x

@@ -1,7 +1,7 @@
 -- A term with an opened variable fits.
-use Rattle.std.proofs.Common.{ℕ, zero, suc, ◌+◌, ◌-◌, ◌<◌, Bool, true, false, cond, ltb, List, [], ◌∷◌, map, ◌≡◌, refl, sym, ap, ◌∙◌, subst, ◌⊎◌, inl, inr, Some, None, length, arith, eqb-true, eq-eqb}
-use Rattle.std.specs.Prelude.{nat_eq, nat_lt}
-use Rattle.std.proofs.lemmas.Bool.{lt-ltb, le-ltb, cases_order, ne_eqb, false≢true}
+use Rattle.std.proofs.Common.{ℕ, zero, suc, ◌+◌, ◌-◌, ◌<◌, Bool, true, false, cond, List, [], ◌∷◌, map, ◌≡◌, refl, sym, ap, ◌∙◌, subst, ◌⊎◌, inl, inr, Some, None, length, arith, eq-eqb}
+use Rattle.std.specs.Prelude.{nat_eq}
+use Rattle.std.proofs.lemmas.Bool.{lt-ltb, le-ltb, cases_order, ne_eqb}
 use Rattle.wt_bag.specs.Bags.{Each}
 use Rattle.wt_bag.specs.Choices.{At, Has}
 use Rattle.wt_bag.proofs.EachLaws.{each_implies}
@@ -22,7 +22,7 @@ use Rattle.wt_rows.specs.Fits.{ColsExist, AreOf, HasPart, ExprFits, HasList, IsL
 use Rattle.wt_rows.proofs.Take.{some_is}
 use Rattle.wt_rows.proofs.Rewrite.{cols_equal}
 use Rattle.wt_rows.proofs.Moving.{at_implies, at_before, at_opened}
-use Rattle.wt_rows.proofs.MapsFit.{up_fits, up_listed}
+use Rattle.wt_rows.proofs.MapsFit.{up_fits}
 use Rattle.wt_rows.proofs.Exist.{at_behind}
 
 -- columns of columns of a part are of the part

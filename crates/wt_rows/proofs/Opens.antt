@@ -1,9 +1,9 @@
 -- Opening a variable of a term that fits keeps rows.
-use Rattle.std.proofs.Common.{ℕ, zero, suc, ◌<◌, Bool, true, false, List, [], ◌∷◌, ◌≡◌, refl, sym, ap, ◌∙◌, subst, ◌⊎◌, inl, inr, eqb-true}
+use Rattle.std.proofs.Common.{ℕ, zero, suc, Bool, true, List, [], ◌∷◌, ◌≡◌, refl, sym, ap, ◌∙◌, subst, ◌⊎◌, eqb-true}
 use Rattle.std.specs.Prelude.{slice_index_or}
 use Rattle.std.proofs.lemmas.Bool.{false≢true}
 use Rattle.wt_bag.specs.Bags.{Each, AtMostOne}
-use Rattle.wt_bag.specs.Choices.{choices, Fitting, At, Has}
+use Rattle.wt_bag.specs.Choices.{choices, Fitting, At}
 use Rattle.wt_bag.proofs.EachLaws.{each_implies}
 use Rattle.wt_value.specs.Values.{Tuple}
 use Rattle.wt_symbol.specs.declared.head.Part.{Part}
@@ -11,23 +11,20 @@ use Rattle.wt_symbol.specs.declared.head.PartCols.{PartCols}
 use Rattle.wt_symbol.specs.declared.head.PartCols.TheVariants.{Whole, List as Listed}
 use Rattle.wt_form.specs.declared.form.Expr.{Expr}
 use Rattle.wt_form.specs.declared.form.Expr.TheVariants.{Of, Null as NullOf}
-use Rattle.wt_form.specs.Trees.{Terms, Ranges, no_ranges, range_then, FormRange, Rel, distinct_of, Conds}
+use Rattle.wt_form.specs.Trees.{Terms, Ranges, range_then, FormRange, Rel, distinct_of, Conds}
 use Rattle.wt_form.specs.Parts.{one_term, ranges_append, ranges_count, ranges_list}
-use Rattle.wt_form.specs.Known.{Known, cols_eq}
+use Rattle.wt_form.specs.Known.{Known}
 use Rattle.wt_form.specs.Closed.{IsWithin}
 use Rattle.wt_form.specs.Opening.{Opened}
 use Rattle.wt_instance.specs.declared.instance.Instance.{Instance}
-use Rattle.wt_instance.specs.Instances.{table, numbers}
 use Rattle.wt_rows.specs.FormRows.{Piece, Env, FormRow, form_row_same, numbered, label, labels, terms_rows, ranges_rows}
 use Rattle.wt_rows.specs.Fits.{AreOf, HasPart, ExprFits, RangesFit, CondsFit, RowFits}
 use Rattle.wt_rows.specs.Keeping.{Keeps}
 use Rattle.wt_rows.proofs.Reading.{RowReads, row_reads}
 use Rattle.wt_rows.proofs.Values.{InRange, Chosen, each_chosen}
-use Rattle.wt_rows.proofs.Rewrite.{cols_equal}
-use Rattle.wt_rows.proofs.Open.{OfCond}
 use Rattle.wt_rows.proofs.Take.{CutReads, CutReadsAt, cut_list, cut_whole, cut_null}
 use Rattle.wt_rows.proofs.Opening.{OverPart, opening_keeps}
-use Rattle.wt_rows.proofs.Exist.{expr_within, conds_exprs, ranges_right, at_behind, at_both}
+use Rattle.wt_rows.proofs.Exist.{expr_within, conds_exprs, ranges_right, at_behind}
 
 -- a part that is read whole is numbered from 0 on
 labels_whole : (I : Instance) (h : List Part) (i : ℕ) (row : FormRow) → At (λ part. AreOf I part.cols Whole) i h → (vs : Tuple) × (slice_index_or (labels I h row) i [] ≡ numbered 0 vs)

@@ -1,5 +1,5 @@
 -- What the rows of a form that fits give to the steps that need it.
-use Rattle.std.proofs.Common.{ℕ, suc, List, [], ◌∷◌, map, ◌≡◌, refl, sym, ap, ◌∙◌}
+use Rattle.std.proofs.Common.{ℕ, suc, List, [], ◌∷◌, ◌≡◌, refl, ap}
 use Rattle.std.specs.Prelude.{◌≢◌, ◌<◌, length}
 use Rattle.wt_bag.specs.Bags.{Each}
 use Rattle.wt_bag.proofs.EachLaws.{each_implies}
@@ -14,7 +14,7 @@ use Rattle.wt_form.specs.Parts.{ranges_list, conds_list}
 use Rattle.wt_instance.specs.declared.instance.Instance.{Instance}
 use Rattle.wt_instance.specs.Instances.{numbers}
 use Rattle.wt_rows.specs.FormRows.{FormRow, values_in, numbered, label, part_values, terms_rows}
-use Rattle.wt_rows.specs.Fits.{ColsExist, ExprFits, IsListed, ValuesFit, RowFits, RangeFits, RangesFit, CondFits, CondsFit}
+use Rattle.wt_rows.specs.Fits.{ExprFits, IsListed, ValuesFit, RowFits, RangeFits, RangesFit, CondFits, CondsFit}
 
 -- each piece of a row is read back from its part
 abbrev pub RowReads : Instance → List Part → FormRow → Type 0

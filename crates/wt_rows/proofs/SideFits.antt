@@ -1,9 +1,9 @@
 -- The form of a side fits.
-use Rattle.std.proofs.Common.{ℕ, zero, suc, ◌+◌, ◌<◌, Bool, true, false, ◌&&◌, cond, List, [], ◌∷◌, ◌++◌, map, ◌≡◌, refl, sym, ap, ◌∙◌, subst, ◌⊎◌, inl, inr, arith, length, eqb-true}
-use Rattle.std.specs.Prelude.{nat_eq, slice_index_or}
+use Rattle.std.proofs.Common.{ℕ, zero, suc, ◌+◌, ◌<◌, cond, List, [], ◌∷◌, ◌++◌, map, ◌≡◌, refl, sym, ap, ◌∙◌, subst, inl, inr, arith, length, eqb-true}
+use Rattle.std.specs.Prelude.{slice_index_or}
 use Rattle.wt_bag.specs.Bags.{Each, distinct}
-use Rattle.wt_bag.specs.Choices.{choices, Fitting, At, Has}
-use Rattle.wt_bag.proofs.EachLaws.{each_append, each_implies, each_map, each_distinct, each_filter_map}
+use Rattle.wt_bag.specs.Choices.{choices, Fitting, At}
+use Rattle.wt_bag.proofs.EachLaws.{each_append, each_implies, each_distinct, each_filter_map}
 use Rattle.wt_bag.proofs.HasLaws.{each_has_self}
 use Rattle.wt_bag.proofs.ChoiceLaws.{each_choice}
 use Rattle.wt_value.specs.declared.value.Value.TheVariants.{Null}
@@ -16,20 +16,19 @@ use Rattle.wt_symbol.specs.Heads.{anchor, head_of}
 use Rattle.wt_form.specs.declared.form.Expr.{Expr}
 use Rattle.wt_form.specs.declared.form.Expr.TheVariants.{Of, Null as NullOf}
 use Rattle.wt_form.specs.Trees.{Terms, no_terms, term_then, Ranges, no_ranges, range_then, FormRange, Rel, distinct_of, Conds, no_conds, cond_then, Cond, Pred, Join, is_in, not_in}
-use Rattle.wt_form.specs.Parts.{one_term, terms_append, ranges_append, conds_append, with_cond, conds_up, expr_up, ranges_count, ranges_list}
+use Rattle.wt_form.specs.Parts.{ranges_append, conds_append, with_cond, conds_up, expr_up, ranges_count, ranges_list}
 use Rattle.wt_form.specs.FormOf.{each_term, expr_with, list_expr, list_of, list_part, proj_term, cond_term, null_pieces, null_term, join_term, join_terms, part_pieces, side_terms, form_of}
 use Rattle.wt_instance.specs.declared.instance.Instance.{Instance}
 use Rattle.wt_instance.specs.Instances.{width, table, numbers, IsWide}
-use Rattle.wt_rows.specs.FormRows.{Piece, Env, FormRow, form_row_same, values_in, numbered, label, labels, part_values, nulls, values_of, row_of, one_rows, terms_rows, ranges_rows, range_rows, conds_hold}
-use Rattle.wt_rows.specs.Fits.{ColsExist, PartExists, AreOf, HasPart, ExprFits, HasList, IsListed, IsPiece, Aligned, ValuesFit, RowFits, RowsFit, TermsFit, RangesFit, RangeFits, CondFits, CondsFit, Fits}
+use Rattle.wt_rows.specs.FormRows.{Piece, Env, FormRow, form_row_same, values_in, numbered, label, labels, nulls, values_of, row_of, one_rows, terms_rows, ranges_rows, range_rows, conds_hold}
+use Rattle.wt_rows.specs.Fits.{PartExists, AreOf, HasPart, ExprFits, HasList, IsListed, IsPiece, Aligned, ValuesFit, RowFits, TermsFit, RangesFit, RangeFits, CondFits, CondsFit, Fits}
 use Rattle.wt_rows.proofs.Reading.{values_numbered}
 use Rattle.wt_rows.proofs.Take.{beside_each}
 use Rattle.wt_rows.proofs.Exist.{ranges_put}
 use Rattle.wt_rows.proofs.Moving.{at_implies, at_first, at_skip}
 use Rattle.wt_rows.proofs.MapsFit.{conds_put, conds_mapped, conds_any, up_listed}
 use Rattle.wt_rows.proofs.OpenedFits.{cut_part}
-use Rattle.wt_rows.proofs.StayFit.{TermFits}
-use Rattle.wt_rows.proofs.TermSums.{EachTerm, each_term_append, each_term_by, each_term_implies}
+use Rattle.wt_rows.proofs.TermSums.{EachTerm, each_term_append, each_term_by}
 use Rattle.wt_rows.proofs.Naming.{cols_of, HaveCols, ListStands}
 use Rattle.wt_rows.proofs.StayFit.{listed_fit}
 
@@ -281,15 +280,17 @@ are_of_itself I (Listed a) = each_has_self (numbers I a)
 -- the parts behind some others
 part_leaves : (g hs : List Part) (ts : Terms) (i : ℕ) → ((P : Part → Type 0) (j : ℕ) → At P j hs → At P (i + j) g) → OfLeaves (range_then (distinct_of g ts) no_ranges) hs (part_pieces i hs)
 part_leaves g [] ts i f = tt
-part_leaves g (h ∷ hs) ts i f =
-    (subst (λ n. At (λ part. part.leaf ≡ h.leaf) n g) (let z : i + 0 ≡ i = omega arith in z) (f (λ part. part.leaf ≡ h.leaf) 0 refl),
-    part_leaves g hs ts (suc i) (λ P j a. subst (λ n. At P n g) (let z : i + suc j ≡ suc i + j = omega arith in z) (f P (suc j) a)))
+part_leaves g (h ∷ hs) ts i f = (
+  subst (λ n. At (λ part. part.leaf ≡ h.leaf) n g) (let z : i + 0 ≡ i = omega arith in z) (f (λ part. part.leaf ≡ h.leaf) 0 refl),
+  part_leaves g hs ts (suc i) (λ P j a. subst (λ n. At P n g) (let z : i + suc j ≡ suc i + j = omega arith in z) (f P (suc j) a)),
+)
 
 part_fits : (I : Instance) (g hs : List Part) (ts : Terms) (i : ℕ) → Each (PartExists I) hs → ((P : Part → Type 0) (j : ℕ) → At P j hs → At P (i + j) g) → Each (ExprFits I (range_then (distinct_of g ts) no_ranges)) (part_pieces i hs)
 part_fits I g [] ts i e f = tt
-part_fits I g (h ∷ hs) ts i e f =
-    ((subst (λ n. At (λ part. AreOf I part.cols h.cols) n g) (let z : i + 0 ≡ i = omega arith in z) (f (λ part. AreOf I part.cols h.cols) 0 (are_of_itself I h.cols)), e.0.1),
-    part_fits I g hs ts (suc i) e.1 (λ P j a. subst (λ n. At P n g) (let z : i + suc j ≡ suc i + j = omega arith in z) (f P (suc j) a)))
+part_fits I g (h ∷ hs) ts i e f = (
+  (subst (λ n. At (λ part. AreOf I part.cols h.cols) n g) (let z : i + 0 ≡ i = omega arith in z) (f (λ part. AreOf I part.cols h.cols) 0 (are_of_itself I h.cols)), e.0.1),
+  part_fits I g hs ts (suc i) e.1 (λ P j a. subst (λ n. At P n g) (let z : i + suc j ≡ suc i + j = omega arith in z) (f P (suc j) a)),
+)
 
 at_start : (g : List Part) (P : Part → Type 0) (j : ℕ) → At P j g → At P (0 + j) g
 at_start g P j a = subst (λ n. At P n g) (let z : j ≡ 0 + j = omega arith in z) a
@@ -317,13 +318,16 @@ module _ (I : Instance) (A : List ℕ) (wide : (r : ℕ) → IsWide I r) where
       (record { ranges = t.ranges; conds = conds_with I rs cs (c ps) t.conds (w rs cs ps t); cols = t.cols; leaves = t.leaves; pieces = t.pieces }, tt))
 
   nulled : (hs gs : List Part) (c : List Expr → Cond) (ts : Terms) → Each (PartExists I) gs → ((rs : Ranges) (cs : Conds) (ps : List Expr) → TermStands I hs rs cs ps → CondFits I rs (c ps)) → EachTerm (TermStands I hs) ts → EachTerm (TermStands I (hs ++ gs)) (each_term (null_term c gs) ts)
-  nulled hs gs c ts exists w h = each_term_by (TermStands I hs) (TermStands I (hs ++ gs)) (null_term c gs) ts h (λ rs cs ps t. (record {
-    ranges = t.ranges;
-    conds = conds_with I rs cs (c ps) t.conds (w rs cs ps t);
-    cols = cols_append hs gs ps (null_pieces gs) t.cols (null_cols gs);
-    leaves = leaves_append rs hs gs ps (null_pieces gs) t.leaves (null_leaves rs gs);
-    pieces = each_append (ExprFits I rs) ps (null_pieces gs) t.pieces (null_fits I rs gs exists);
-  }, tt))
+  nulled hs gs c ts exists w h = each_term_by (TermStands I hs) (TermStands I (hs ++ gs)) (null_term c gs) ts h (λ rs cs ps t. (
+    record {
+      ranges = t.ranges;
+      conds = conds_with I rs cs (c ps) t.conds (w rs cs ps t);
+      cols = cols_append hs gs ps (null_pieces gs) t.cols (null_cols gs);
+      leaves = leaves_append rs hs gs ps (null_pieces gs) t.leaves (null_leaves rs gs);
+      pieces = each_append (ExprFits I rs) ps (null_pieces gs) t.pieces (null_fits I rs gs exists);
+    },
+    tt,
+  ))
 
   joined : (hs gs : List Part) (a b : ℕ) → ListStands I hs (anchor A a) a → a < length I.lists → ListStands I gs (anchor A b) b → b < length I.lists → (rs rs' : Ranges) (cs cs' : Conds) (ps ps' : List Expr) → TermStands I hs rs cs ps → TermStands I gs rs' cs' ps' →
       TermStands I (hs ++ gs) (ranges_append rs rs') (with_cond (conds_append cs (conds_up (ranges_count rs) cs')) (Join (list_of hs A a ps) (expr_up (ranges_count rs) (list_of gs A b ps')))) (ps ++ map (expr_up (ranges_count rs)) ps')
@@ -363,19 +367,26 @@ module _ (I : Instance) (A : List ℕ) (wide : (r : ℕ) → IsWide I r) where
       each_term_append (TermStands I (head_of s A ++ head_of t A)) _ _
       (joins (head_of s A) (head_of t A) a b (side_terms s A) (side_terms t A) h.0.0 h.0.1 h.1.0 h.1.1 (side_stands s h.2) (side_stands t h.3))
       (nulled (head_of s A) (head_of t A) (λ ps. not_in (list_of (head_of s A) A a ps) (list_part A b ∷ []) (each_term (proj_term (list_of (head_of t A) A b)) (side_terms t A))) (side_terms s A) (heads_exist t h.3)
-      (λ rs cs ps t'. let x = listed (head_of s A) a h.0.0 h.0.1 rs cs ps t' in
-      ((x.3, x.0), ((((leaf_exists I (head_of t A) (anchor A b) b h.1.0 (heads_exist t h.3), h.1.1), tt), stands_rows I wide (list_part A b ∷ []) (each_term (proj_term (list_of (head_of t A) A b)) (side_terms t A)) listed_right),
-      terms_of_stands I (list_part A b ∷ []) (each_term (proj_term (list_of (head_of t A) A b)) (side_terms t A)) listed_right))) (side_stands s h.2))
+      (λ rs cs ps t'. let x = listed (head_of s A) a h.0.0 h.0.1 rs cs ps t' in (
+        (x.3, x.0),
+        (
+          (((leaf_exists I (head_of t A) (anchor A b) b h.1.0 (heads_exist t h.3), h.1.1), tt), stands_rows I wide (list_part A b ∷ []) (each_term (proj_term (list_of (head_of t A) A b)) (side_terms t A)) listed_right),
+          terms_of_stands I (list_part A b ∷ []) (each_term (proj_term (list_of (head_of t A) A b)) (side_terms t A)) listed_right,
+        ),
+      )) (side_stands s h.2))
   side_stands (in_sub a s t) h =
       conded (head_of s A) (λ ps. is_in (list_of (head_of s A) A a ps) (head_of t A) (side_terms t A)) (side_terms s A)
       (λ rs cs ps t'. let x = listed (head_of s A) a h.0.0 h.0.1 rs cs ps t' in ((x.3, x.0), form_fits t (heads_exist t h.2) (side_stands t h.2))) (side_stands s h.1)
-  side_stands (dedup s) h = (record {
-    ranges = (form_fits s (heads_exist s h) (side_stands s h), tt);
-    conds = tt;
-    cols = part_cols 0 (head_of s A);
-    leaves = part_leaves (head_of s A) (head_of s A) (side_terms s A) 0 (at_start (head_of s A));
-    pieces = part_fits I (head_of s A) (head_of s A) (side_terms s A) 0 (heads_exist s h) (at_start (head_of s A));
-  }, tt)
+  side_stands (dedup s) h = (
+    record {
+      ranges = (form_fits s (heads_exist s h) (side_stands s h), tt);
+      conds = tt;
+      cols = part_cols 0 (head_of s A);
+      leaves = part_leaves (head_of s A) (head_of s A) (side_terms s A) 0 (at_start (head_of s A));
+      pieces = part_fits I (head_of s A) (head_of s A) (side_terms s A) 0 (heads_exist s h) (at_start (head_of s A));
+    },
+    tt,
+  )
 
   -- the form of a side fits
   pub side_fits : (s : SideTree) → SideStands I A s → Fits I (form_of s A)

@@ -1,16 +1,13 @@
 -- The rows of a side are those of its form.
-use Rattle.std.proofs.Common.{ℕ, zero, suc, ◌+◌, ◌<◌, Bool, true, false, ◌&&◌, ◌||◌, not, cond, List, [], ◌∷◌, ◌++◌, map, filter, ◌≡◌, refl, sym, ap, ◌∙◌, subst, arith, inl, inr, length}
-use Rattle.std.specs.Prelude.{slice_index_or, flat_map}
+use Rattle.std.proofs.Common.{ℕ, zero, suc, ◌+◌, ◌<◌, Bool, true, false, ◌&&◌, ◌||◌, not, cond, List, [], ◌∷◌, ◌++◌, map, filter, ◌≡◌, refl, sym, ap, ◌∙◌, subst, arith, length}
 use Rattle.std.specs.List.{list_any}
-use Rattle.std.proofs.lemmas.Bool.{and_parts}
 use Rattle.std.proofs.lemmas.List.{append-nil, append_assoc, map-append, length-map}
-use Rattle.wt_bag.specs.Bags.{total, only, Each, SameSums, SameElements, DecidesEquality, distinct}
+use Rattle.wt_bag.specs.Bags.{total, only, Each}
 use Rattle.wt_bag.specs.Choices.{choices}
-use Rattle.wt_bag.proofs.TotalLaws.{total-append, total-map, total-filter, total-flat_map, total_ext, total_each, total-add, only-total, only-and}
+use Rattle.wt_bag.proofs.TotalLaws.{total-map, total-filter, total_ext, total_each, only-total, only-and}
 use Rattle.wt_bag.proofs.ChoiceLaws.{total-choices_cons, total-choices_append, length_choice}
-use Rattle.wt_bag.proofs.EachLaws.{each_implies, each_both, each_distinct}
-use Rattle.wt_bag.proofs.BagLaws.{positive, list_any-total, same_elements, distinct_same, distinct-map}
-use Rattle.wt_value.specs.declared.value.Value.{Value}
+use Rattle.wt_bag.proofs.EachLaws.{each_implies}
+use Rattle.wt_bag.proofs.BagLaws.{positive, list_any-total}
 use Rattle.wt_value.specs.declared.value.Value.TheVariants.{Null}
 use Rattle.wt_value.specs.Values.{Tuple, row_matches}
 use Rattle.wt_symbol.specs.declared.head.Part.{Part}
@@ -20,25 +17,24 @@ use Rattle.wt_symbol.specs.Sides.{SideTree, input, proj, filtered, inner_join, l
 use Rattle.wt_symbol.specs.Heads.{anchor, head_of}
 use Rattle.wt_form.specs.declared.form.Expr.{Expr}
 use Rattle.wt_form.specs.declared.form.Expr.TheVariants.{Of, Null as NullOf}
-use Rattle.wt_form.specs.Trees.{Terms, no_terms, term_then, Ranges, no_ranges, range_then, FormRange, Rel, distinct_of, Conds, no_conds, cond_then, Cond, Pred, Join, is_in, not_in}
-use Rattle.wt_form.specs.Parts.{one_term, terms_append, ranges_append, conds_append, with_cond, conds_up, expr_up, ranges_count, ranges_list, conds_list}
-use Rattle.wt_form.specs.FormOf.{each_term, list_of, list_part, proj_term, cond_term, null_pieces, null_term, join_term, join_terms, part_pieces, side_terms}
+use Rattle.wt_form.specs.Trees.{Terms, Ranges, no_ranges, range_then, Rel, Conds, no_conds, Cond, Join, not_in}
+use Rattle.wt_form.specs.Parts.{one_term, ranges_append, conds_append, with_cond, conds_up, expr_up, ranges_count, conds_list}
+use Rattle.wt_form.specs.FormOf.{each_term, list_of, list_part, proj_term, cond_term, null_pieces, null_term, join_term, join_terms, side_terms}
 use Rattle.wt_form.specs.Closed.{IsWithin}
 use Rattle.wt_instance.specs.declared.instance.Instance.{Instance}
-use Rattle.wt_instance.specs.Instances.{width, table, numbers, is_true, IsWide}
+use Rattle.wt_instance.specs.Instances.{width, table, numbers, IsWide}
 use Rattle.wt_instance.specs.Rows as rows
 use Rattle.wt_instance.specs.Rows.{Named, cell, values, values_at, cells_at, named, leaf_columns, columns_of, joined, or_nulls, named_same, named_rows}
-use Rattle.wt_instance.proofs.NamedRows.{named_same_decides}
-use Rattle.wt_rows.specs.FormRows.{Piece, Env, FormRow, form_row_same, values_in, numbered, beside, label, labels, part_values, nulls, null_values, values_of, row_of, put_together, terms_rows, ranges_rows, range_rows, conds_hold, cond_holds}
-use Rattle.wt_rows.specs.Fits.{ExprFits, ValuesFit, RowFits}
-use Rattle.wt_rows.proofs.Sums.{form_rows_decide, term_total, total-one, conds_hold-append, ranges_rows-append, length-ranges_rows}
+use Rattle.wt_rows.specs.FormRows.{Piece, Env, FormRow, values_in, numbered, beside, label, part_values, nulls, values_of, row_of, put_together, terms_rows, ranges_rows, range_rows, conds_hold, cond_holds}
+use Rattle.wt_rows.specs.Fits.{ExprFits, RowFits}
+use Rattle.wt_rows.proofs.Sums.{term_total, conds_hold-append, ranges_rows-append, length-ranges_rows}
 use Rattle.wt_rows.proofs.Reading.{RowReads, row_reads, values_numbered}
 use Rattle.wt_rows.proofs.Values.{Chosen, each_chosen}
 use Rattle.wt_rows.proofs.Open.{OfCond}
 use Rattle.wt_rows.proofs.Exist.{expr_within, conds_exprs}
-use Rattle.wt_rows.proofs.TermSums.{EachTerm, terms_total, total-terms, terms_total-append, terms_total-each_term, terms_total_by, one_total, swap_terms, conds_hold-with_cond, values_left, values_right, conds_left, conds_right, row_left, row_right, row_of-append}
+use Rattle.wt_rows.proofs.TermSums.{EachTerm, terms_total, total-terms, terms_total-each_term, terms_total_by, one_total, swap_terms, conds_hold-with_cond, values_left, values_right, conds_left, conds_right, row_left, row_right, row_of-append}
 use Rattle.wt_rows.proofs.Naming.{named_piece, named_row, HaveCols, ListStands, list_values, named_list}
-use Rattle.wt_rows.proofs.SideFits.{TermStands, SideStands, side_stands, stands_rows, projs}
+use Rattle.wt_rows.proofs.SideFits.{TermStands, stands_rows, projs}
 
 values-named_piece : (r : ℕ) (p : Piece) → values (named_piece r p) ≡ values_in p
 values-named_piece r [] = refl
@@ -315,7 +311,7 @@ module _ (I : Instance) (A : List ℕ) (wide : (r : ℕ) → IsWide I r) where
           ≡ only (conds_hold (with_cond cs (c ps)) I e) (g (named_row I (hs ++ gs) (row_of I (ps ++ null_pieces gs) e)))
       at rs cs ps s e ch =
           let row : named_row I (hs ++ gs) (row_of I (ps ++ null_pieces gs) e) ≡ named_row I hs (row_of I ps e) ++ rows.nulls (columns_of t A I) =
-              ap (named_row I (hs ++ gs)) (row_of-append I e ps (null_pieces gs)) ∙ named_row-append hs gs ps (row_of I (null_pieces gs) e) e s.cols ∙ ap (λ w. named_row I hs (row_of I ps e) ++ w) (sym (null_columns t e)) in
+          ap (named_row I (hs ++ gs)) (row_of-append I e ps (null_pieces gs)) ∙ named_row-append hs gs ps (row_of I (null_pieces gs) e) e s.cols ∙ ap (λ w. named_row I hs (row_of I ps e) ++ w) (sym (null_columns t e)) in
           sym (ap (λ v. only (conds_hold (with_cond cs (c ps)) I e) (g v)) row
           ∙ ap (λ b. only b (g (named_row I hs (row_of I ps e) ++ rows.nulls (columns_of t A I)))) (conds_hold-with_cond I e cs (c ps) ∙ ap (λ b. conds_hold cs I e && b) (sym (says rs cs ps s e ch)))
           ∙ only-and (conds_hold cs I e) (not (list_any (λ w. matching a b (named_row I hs (row_of I ps e)) w) old')) (g (named_row I hs (row_of I ps e) ++ rows.nulls (columns_of t A I))))

@@ -1,13 +1,10 @@
 -- On an instance of a lawful pair that meets a set, the lists of both sides stand.
-use Rattle.std.proofs.Common.{ℕ, zero, suc, ◌+◌, ◌<◌, ◌≤◌, Bool, true, false, ◌&&◌, ◌||◌, not, List, [], ◌∷◌, ◌++◌, ◌≡◌, refl, sym, ap, ◌∙◌, subst, arith, length, ◌⊎◌, inl, inr, eqb-true, eq-eqb}
+use Rattle.std.proofs.Common.{ℕ, zero, suc, ◌<◌, Bool, true, false, ◌||◌, not, List, [], ◌∷◌, ◌++◌, ◌≡◌, refl, sym, ap, ◌∙◌, subst, arith, length, ◌⊎◌, inl, inr, eqb-true}
 use Rattle.std.specs.Prelude.{nat_eq, slice_index_or, ◌==◌, ◌≢◌, if◌then◌else◌}
-use Rattle.std.specs.List.{list_any, list_all}
 use Rattle.std.proofs.lemmas.Bool.{and_parts, and_from, false≢true, ne_eqb}
 use Rattle.wt_bag.specs.Bags.{Each}
-use Rattle.wt_bag.specs.Choices.{Has}
 use Rattle.wt_bag.proofs.EachLaws.{each_append}
 use Rattle.wt_symbol.specs.declared.head.Part.{Part}
-use Rattle.wt_symbol.specs.declared.head.PartCols.TheVariants.{Whole, List as Listed}
 use Rattle.wt_symbol.specs.Sides.{SideTree, input, proj, filtered, inner_join, left_join, in_sub, dedup, PairTree, leaves_of, lists_of, preds_of}
 use Rattle.wt_symbol.specs.Lawful.{occurs, counts_up, all_different, all_in, is_numbered, uses_symbols_of, visible_leaves, sees, stands, IsLawful}
 use Rattle.wt_symbol.specs.Heads.{anchor, head_of}
@@ -206,26 +203,31 @@ module _ (I : Instance) (A : List ℕ) where
       let p = parts4 (stands s A) (stands t A) (sees s A a) (sees t A b) st in
       let q = parts4 (comes_from s I (anchor A a) a) (comes_from t I (anchor A b) b) (lists_come s A I) (lists_come t A I) c in
       let ds = different_left (leaves_of s) (leaves_of t) d in
-      let dt = different_right (leaves_of s) (leaves_of t) d in
-      ((list_stands s (anchor A a) a p.0 ds p.2 q.0, ls.0), (list_stands t (anchor A b) b p.1 dt p.3 q.1, ls.1.0),
-      side_lists_stand s p.0 ds q.2 (below_left (length I.tables) (leaves_of s) (leaves_of t) lv) (below_left (length I.lists) (lists_of s) (lists_of t) ls.1.1) (below_left (length I.trues) (preds_of s) (preds_of t) ps),
-      side_lists_stand t p.1 dt q.3 (below_right (length I.tables) (leaves_of s) (leaves_of t) lv) (below_right (length I.lists) (lists_of s) (lists_of t) ls.1.1) (below_right (length I.trues) (preds_of s) (preds_of t) ps))
+      let dt = different_right (leaves_of s) (leaves_of t) d in (
+        (list_stands s (anchor A a) a p.0 ds p.2 q.0, ls.0),
+        (list_stands t (anchor A b) b p.1 dt p.3 q.1, ls.1.0),
+        side_lists_stand s p.0 ds q.2 (below_left (length I.tables) (leaves_of s) (leaves_of t) lv) (below_left (length I.lists) (lists_of s) (lists_of t) ls.1.1) (below_left (length I.trues) (preds_of s) (preds_of t) ps),
+        side_lists_stand t p.1 dt q.3 (below_right (length I.tables) (leaves_of s) (leaves_of t) lv) (below_right (length I.lists) (lists_of s) (lists_of t) ls.1.1) (below_right (length I.trues) (preds_of s) (preds_of t) ps),
+      )
   side_lists_stand (left_join a b s t) st d c lv ls ps =
       let p = parts4 (stands s A) (stands t A) (sees s A a) (sees t A b) st in
       let q = parts4 (comes_from s I (anchor A a) a) (comes_from t I (anchor A b) b) (lists_come s A I) (lists_come t A I) c in
       let ds = different_left (leaves_of s) (leaves_of t) d in
-      let dt = different_right (leaves_of s) (leaves_of t) d in
-      ((list_stands s (anchor A a) a p.0 ds p.2 q.0, ls.0), (list_stands t (anchor A b) b p.1 dt p.3 q.1, ls.1.0),
-      side_lists_stand s p.0 ds q.2 (below_left (length I.tables) (leaves_of s) (leaves_of t) lv) (below_left (length I.lists) (lists_of s) (lists_of t) ls.1.1) (below_left (length I.trues) (preds_of s) (preds_of t) ps),
-      side_lists_stand t p.1 dt q.3 (below_right (length I.tables) (leaves_of s) (leaves_of t) lv) (below_right (length I.lists) (lists_of s) (lists_of t) ls.1.1) (below_right (length I.trues) (preds_of s) (preds_of t) ps))
+      let dt = different_right (leaves_of s) (leaves_of t) d in (
+        (list_stands s (anchor A a) a p.0 ds p.2 q.0, ls.0),
+        (list_stands t (anchor A b) b p.1 dt p.3 q.1, ls.1.0),
+        side_lists_stand s p.0 ds q.2 (below_left (length I.tables) (leaves_of s) (leaves_of t) lv) (below_left (length I.lists) (lists_of s) (lists_of t) ls.1.1) (below_left (length I.trues) (preds_of s) (preds_of t) ps),
+        side_lists_stand t p.1 dt q.3 (below_right (length I.tables) (leaves_of s) (leaves_of t) lv) (below_right (length I.lists) (lists_of s) (lists_of t) ls.1.1) (below_right (length I.trues) (preds_of s) (preds_of t) ps),
+      )
   side_lists_stand (in_sub a s t) st d c lv ls ps =
       let p = parts3 (stands s A) (stands t A) (sees s A a) st in
       let q = parts3 (comes_from s I (anchor A a) a) (lists_come s A I) (lists_come t A I) c in
       let ds = different_left (leaves_of s) (leaves_of t) d in
-      let dt = different_right (leaves_of s) (leaves_of t) d in
-      ((list_stands s (anchor A a) a p.0 ds p.2 q.0, ls.0),
-      side_lists_stand s p.0 ds q.1 (below_left (length I.tables) (leaves_of s) (leaves_of t) lv) (below_left (length I.lists) (lists_of s) (lists_of t) ls.1) (below_left (length I.trues) (preds_of s) (preds_of t) ps),
-      side_lists_stand t p.1 dt q.2 (below_right (length I.tables) (leaves_of s) (leaves_of t) lv) (below_right (length I.lists) (lists_of s) (lists_of t) ls.1) (below_right (length I.trues) (preds_of s) (preds_of t) ps))
+      let dt = different_right (leaves_of s) (leaves_of t) d in (
+        (list_stands s (anchor A a) a p.0 ds p.2 q.0, ls.0),
+        side_lists_stand s p.0 ds q.1 (below_left (length I.tables) (leaves_of s) (leaves_of t) lv) (below_left (length I.lists) (lists_of s) (lists_of t) ls.1) (below_left (length I.trues) (preds_of s) (preds_of t) ps),
+        side_lists_stand t p.1 dt q.2 (below_right (length I.tables) (leaves_of s) (leaves_of t) lv) (below_right (length I.lists) (lists_of s) (lists_of t) ls.1) (below_right (length I.trues) (preds_of s) (preds_of t) ps),
+      )
   side_lists_stand (dedup s) st d c lv ls ps = side_lists_stand s st d c lv ls ps
 
 -- numbers that count up are all different

@@ -3,7 +3,7 @@ use Rattle.std.proofs.Common.{ℕ, zero, suc, ◌+◌, ◌<◌, Bool, true, fals
 use Rattle.std.specs.Prelude.{filter}
 use Rattle.std.specs.List.{list_all}
 use Rattle.std.proofs.lemmas.Bool.{and_parts}
-use Rattle.wt_bag.specs.Bags.{total, only, Each, SameSums, SameElements, DecidesEquality}
+use Rattle.wt_bag.specs.Bags.{total, only, Each, SameSums, DecidesEquality}
 use Rattle.wt_bag.specs.Choices.{choices, Has}
 use Rattle.wt_bag.proofs.TotalLaws.{total-append, total-map, total-filter}
 use Rattle.wt_bag.proofs.EachLaws.{each_for}

@@ -1,10 +1,9 @@
 -- Sums over terms, one after another.
-use Rattle.std.proofs.Common.{ℕ, ◌+◌, ◌<◌, Bool, true, false, ◌&&◌, List, [], ◌∷◌, ◌++◌, map, ◌≡◌, refl, sym, ap, ◌∙◌, subst, arith, length}
+use Rattle.std.proofs.Common.{ℕ, ◌+◌, Bool, true, false, ◌&&◌, List, [], ◌∷◌, ◌++◌, map, ◌≡◌, refl, ap, ◌∙◌, arith, length}
 use Rattle.std.specs.Prelude.{slice_index_or}
 use Rattle.std.proofs.lemmas.List.{get_or_append_left, get_or-append-add, map-append}
 use Rattle.wt_bag.specs.Bags.{total, only, Each}
-use Rattle.wt_bag.specs.Choices.{choices}
-use Rattle.wt_bag.proofs.TotalLaws.{total_each, total_ext, total-add, total-zero}
+use Rattle.wt_bag.proofs.TotalLaws.{total_ext, total-add, total-zero}
 use Rattle.wt_form.specs.declared.form.Expr.{Expr}
 use Rattle.wt_form.specs.declared.form.Expr.TheVariants.{Of, Null as NullOf}
 use Rattle.wt_form.specs.Trees.{Terms, no_terms, term_then, Ranges, Conds, no_conds, cond_then, Cond, Pred, Join, is_in, not_in}
@@ -12,7 +11,7 @@ use Rattle.wt_form.specs.Parts.{one_term, terms_append, with_cond, conds_up, exp
 use Rattle.wt_form.specs.FormOf.{each_term}
 use Rattle.wt_form.specs.Closed.{IsWithin}
 use Rattle.wt_instance.specs.declared.instance.Instance.{Instance}
-use Rattle.wt_rows.specs.FormRows.{Env, FormRow, part_values, values_of, row_of, terms_rows, ranges_rows, conds_hold, cond_holds}
+use Rattle.wt_rows.specs.FormRows.{Env, FormRow, part_values, values_of, row_of, terms_rows, conds_hold, cond_holds}
 use Rattle.wt_rows.proofs.Sums.{term_total, total-term, conds_hold-append}
 use Rattle.wt_rows.proofs.Open.{OfCond}
 

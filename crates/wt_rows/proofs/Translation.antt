@@ -1,6 +1,6 @@
 -- The law of translation: the rows of a side and of its form are one bag.
-use Rattle.std.proofs.Common.{ℕ, zero, suc, ◌+◌, ◌<◌, Bool, true, false, not, List, [], ◌∷◌, ◌++◌, map, filter, ◌≡◌, refl, sym, ap, ◌∙◌, subst, arith, length}
-use Rattle.std.specs.Prelude.{slice_index_or, flat_map}
+use Rattle.std.proofs.Common.{ℕ, suc, ◌+◌, ◌<◌, Bool, true, false, not, List, [], ◌∷◌, ◌++◌, map, filter, ◌≡◌, refl, sym, ap, ◌∙◌, arith, length}
+use Rattle.std.specs.Prelude.{slice_index_or}
 use Rattle.std.specs.List.{list_any}
 use Rattle.std.proofs.lemmas.List.{length-map}
 use Rattle.wt_bag.specs.Bags.{total, only, Each, SameSums, SameElements, DecidesEquality, distinct}
@@ -19,7 +19,7 @@ use Rattle.wt_symbol.specs.Heads.{anchor, head_of}
 use Rattle.wt_form.specs.declared.form.Expr.{Expr}
 use Rattle.wt_form.specs.Trees.{Terms, Ranges, no_ranges, range_then, distinct_of, Conds, no_conds, Pred, is_in, not_in}
 use Rattle.wt_form.specs.Parts.{one_term, ranges_count}
-use Rattle.wt_form.specs.FormOf.{each_term, list_of, list_part, proj_term, null_term, join_terms, part_pieces, side_terms, form_of}
+use Rattle.wt_form.specs.FormOf.{each_term, list_of, list_part, proj_term, null_term, join_terms, part_pieces, side_terms}
 use Rattle.wt_form.specs.Closed.{IsWithin}
 use Rattle.wt_instance.specs.declared.instance.Instance.{Instance}
 use Rattle.wt_instance.specs.Instances.{width, numbers, is_true, IsWide}
@@ -31,9 +31,9 @@ use Rattle.wt_rows.specs.Fits.{ValuesFit, RowFits}
 use Rattle.wt_rows.proofs.Sums.{form_rows_decide, term_total}
 use Rattle.wt_rows.proofs.Reading.{RowReads, row_reads}
 use Rattle.wt_rows.proofs.Exist.{expr_within}
-use Rattle.wt_rows.proofs.TermSums.{terms_total, total-terms, terms_total-append, one_total}
+use Rattle.wt_rows.proofs.TermSums.{total-terms, terms_total-append, one_total}
 use Rattle.wt_rows.proofs.Naming.{named_row, ListStands}
-use Rattle.wt_rows.proofs.SideFits.{TermStands, SideStands, list_fits, side_stands, stands_rows, projs}
+use Rattle.wt_rows.proofs.SideFits.{TermStands, SideStands, list_fits, side_stands, stands_rows}
 use Rattle.wt_rows.proofs.SideRows.{named_total, column_values, matching, law_proj, law_cond, law_inner, law_left, law_input, any_named, or_nulls-total, joined-total, list_any-filter, list_any-map, values_put}
 
 -- rows that fit one head are equal where their values put together are

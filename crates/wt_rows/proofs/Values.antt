@@ -5,7 +5,6 @@ use Rattle.std.specs.List.{list_any}
 use Rattle.std.proofs.lemmas.Bool.{false≢true, le-ltb}
 use Rattle.wt_bag.specs.Bags.{Each, distinct}
 use Rattle.wt_bag.specs.Choices.{choices, Fitting, At, Has}
-use Rattle.wt_bag.proofs.EachLaws.{each_for}
 use Rattle.wt_bag.proofs.ChoiceLaws.{each_choice}
 use Rattle.wt_value.specs.declared.value.Value.{Value}
 use Rattle.wt_value.specs.declared.value.Value.TheVariants.{Null}

@@ -8,23 +8,15 @@ use Rattle.wt_bag.proofs.ChoiceLaws.{total-choices_cons}
 use Rattle.wt_bag.proofs.BagLaws.{positive, distinct_same}
 use Rattle.wt_value.specs.Values.{row_matches}
 use Rattle.wt_form.specs.declared.form.Expr.{Expr}
-use Rattle.wt_form.specs.Trees.{Terms, term_then, Ranges, no_ranges, range_then, distinct_of, Conds, no_conds, cond_then, Cond, not_in, Form}
-use Rattle.wt_form.specs.Parts.{one_term, terms_append, conds_append, ranges_list, conds_list}
-use Rattle.wt_form.specs.Known.{Known}
+use Rattle.wt_form.specs.Trees.{Terms, term_then, Ranges, distinct_of, Conds}
+use Rattle.wt_form.specs.Parts.{one_term, terms_append}
 use Rattle.wt_instance.specs.declared.instance.Instance.{Instance}
 use Rattle.wt_rows.specs.FormRows.{Env, FormRow, form_row_same, labels, values_of, row_of, put_together, terms_rows, ranges_rows, range_rows, conds_hold, cond_holds}
-use Rattle.wt_rows.specs.Holding.{KnownHolds}
-use Rattle.wt_form.specs.Opening.{Opened}
-use Rattle.wt_form.specs.Steps.{Table, PairTable, Row, by_repeated, by_opened, by_self_join, by_in_true, by_join_to_in, by_merged, by_not_in_false, by_null_compared, by_not_in_of_null, by_rewritten, PairRow, TermsStep, at_term, at_two, later_term, in_range, in_cond, RangesStep, at_range, later_range, CondsStep, at_in, at_not_in, later_cond, Step}
+use Rattle.wt_form.specs.Steps.{Table, PairTable, TermsStep, at_term, at_two, later_term, in_range, in_cond, RangesStep, at_range, later_range, CondsStep, at_in, at_not_in, later_cond}
 use Rattle.wt_symbol.specs.declared.head.Part.{Part}
 use Rattle.wt_rows.specs.Fits.{ExprFits, TermsFit, RangesFit, CondsFit}
 use Rattle.wt_rows.specs.Keeping.{Keeps}
 use Rattle.wt_rows.proofs.Sums.{form_rows_decide, term_total, total-term, total-one, total-terms_append, keeps_same, Alike, alike_same, alike_then, alike_add, keeps_alike, positive_sum}
-use Rattle.wt_rows.proofs.Pairs.{pair_keeps}
-use Rattle.wt_rows.proofs.Drops.{repeated_keeps, self_join_keeps, in_true_keeps, not_in_false_keeps, null_compared_keeps, not_in_of_null_keeps}
-use Rattle.wt_rows.proofs.Merge.{merged_keeps}
-use Rattle.wt_rows.proofs.Rewrite.{rewritten_keeps}
-use Rattle.wt_rows.proofs.JoinToIn.{join_to_in_keeps}
 
 positive-any : {X : Type 0} (g : X → ℕ) (xs : List X) → positive (total g xs) ≡ list_any (λ x. positive (g x)) xs
 positive-any g [] = refl
@@ -101,4 +93,3 @@ module _ (I : Instance) (table : Table) (pairs : PairTable)
     conds_sound rs cs cs' f (at_not_in {x = x} {h = h} {ts = ts} {us = us} {cs = rest} s) e =
         ap (λ b. not b && conds_hold rest I e) ((terms_sound true h ts us f.0.1.1 s).tests (λ row. row_matches (values_of I e x) (put_together row)))
     conds_sound rs cs cs' f (later_cond {c = c} {cs = ds} {cs' = ds'} s) e = ap (λ b. cond_holds c I e && b) (conds_sound rs ds ds' f.1 s e)
-

@@ -9,8 +9,8 @@ use Rattle.wt_ast.specs.Tree.{query_tree}
 use Rattle.wt_grammar.specs.Reading.{refused, odd}
 use Rattle.wt_grammar.specs.Statements.{Statement, File, Answer, first_odd}
 use Rattle.wt_parse.specs.declared.statements.Piece.{Piece}
-use Rattle.wt_parse.specs.declared.error.QueryError.{QueryError}
-use Rattle.wt_parse.specs.declared.error.QueryError.TheVariants as errors
+use Rattle.wt_parts.specs.declared.error.QueryError.{QueryError}
+use Rattle.wt_parts.specs.declared.error.QueryError.TheVariants as errors
 
 -- the statement of the tokens from a place to before another
 abbrev pub piece : List Token → ℕ → ℕ → ℕ → Statement

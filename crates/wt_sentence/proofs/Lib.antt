@@ -1,5 +1,6 @@
-pub mod Inversions
+pub mod Stages
 pub mod Took
+pub mod Chains
 pub mod SoundParts
 pub mod SoundQueries
 pub mod Sound

@@ -5,8 +5,8 @@
 ghost use Rattle.std.specs.Prelude.{◌≡◌, ℕ, List, length, map, Ok};
 ghost use Rattle.wt_lex.specs.declared.token.Token.{Token};
 ghost use Rattle.wt_ast.specs.Tree.{QueryTree};
-ghost use Rattle.wt_grammar.specs.Words.{lexeme};
-ghost use Rattle.wt_grammar.specs.Lexemes.{Tokens};
+ghost use Rattle.wt_reading.specs.Lexemes.{lexeme};
+ghost use Rattle.wt_reading.specs.Lexemes.{Tokens};
 ghost use Rattle.wt_grammar.specs.Reading.{statement};
 ghost use Rattle.wt_sentence.specs.Grammar.{IsStatement};
 

@@ -5,7 +5,7 @@ use Rattle.std.specs.List.{list_all}
 use Rattle.std.specs.Str.{bytes_eq}
 use Rattle.std.specs.declared.option.Option.{Option}
 use Rattle.std.proofs.lemmas.Slice.Eq.{bytes_eq-Decides}
-use Rattle.wt_ast.specs.Tree.{QueryTree, select, table, derived, inner_join, left_join, no_filter}
+use Rattle.wt_ast.specs.Tree.{QueryTree, select, table, derived, inner_join, left_join, right_join, comma, no_filter}
 use Rattle.wt_ast.specs.declared.tree.Item.{Item}
 use Rattle.wt_ast.specs.declared.tree.Item.TheVariants as items
 use Rattle.wt_bag.specs.Bags.{count_of}
@@ -33,6 +33,8 @@ keeps_output_names (select distinct chosen (table name alias at alias_at) where_
 keeps_output_names (select distinct chosen (derived query alias columns at alias_at) where_part) = refl
 keeps_output_names (select distinct chosen (inner_join left right on on_at) where_part) = refl
 keeps_output_names (select distinct chosen (left_join left right on on_at) where_part) = refl
+keeps_output_names (select distinct chosen (right_join left right on on_at) where_part) = refl
+keeps_output_names (select distinct chosen (comma left right comma_at) where_part) = refl
 
 pub keeps_names : KeepsNames
 keeps_names tables query h = keeps_output_names query

@@ -1,0 +1,4 @@
+pub mod More
+pub mod Nesting
+pub mod Sizes
+pub mod Views

@@ -9,7 +9,8 @@ use crate::walk::{Cursor, PairList, Spot, fill};
 use std::alloc::{AllocError, Global};
 use std::marker::Model;
 
-/// The pairs of bounds from a place on: contracts see the bounds, and how many pairs were given.
+/// The pairs of bounds from a place on: contracts see the bounds, and how many pairs were given. The number of the next
+/// pair stands still at the last number of 64 bits.
 #[derive(Debug, Drop)]
 pub struct Pairs {
     bounds: Bounds,
@@ -19,11 +20,11 @@ pub struct Pairs {
 
 impl Model for Pairs {
     ghost use Rattle.wt_pair.specs.Walk.{Progress};
-    ghost use Rattle.wt_pair.specs.Track.{IsOnTrack};
+    ghost use Rattle.wt_pair.specs.Track.{IsOnTrack, given};
 
     ghost Value = { Progress };
 
-    ghost view = { λ p. record { bounds = p.bounds; first = p.first } };
+    ghost view = { λ p. record { bounds = p.bounds; first = given p.bounds p.cursor } };
 
     ghost invariant = { λ p. IsOnTrack p.bounds p.cursor p.first };
 }
@@ -60,7 +61,7 @@ impl Pairs {
             return Ok(None);
         }
         let first = self.first;
-        self.first = first + pairs.len() as u64;
+        self.first = first.saturating_add(pairs.len() as u64);
         self.cursor = cursor;
         Ok(Some(Lot {
             bounds: self.bounds,

@@ -1,14 +1,14 @@
 //! Rules, books of rules and the lines of a rule file.
 #![tactic(auto)]
 
-ghost use Rattle.std.specs.Prelude.{◌≡◌, ◌++◌, ◌<◌, ◌≤◌, [], ◌∷◌, length, All, IfOk, OnOk, if◌then◌else◌};
+ghost use Rattle.std.specs.Prelude.{◌≡◌, ◌++◌, ◌<◌, ◌≤◌, [], ◌∷◌, length, All, IfOk, OnOk, string_bytes, if◌then◌else◌};
 ghost use Rattle.std.specs.Fmt.{decimal};
 ghost use Rattle.std.specs.List.{flat_map};
 ghost use Rattle.std.specs.Prelude.{codes};
 ghost use Rattle.wt_symbol.specs.Sides.{tree_of, pair_of};
 ghost use Rattle.wt_symbol.specs.Lawful.{IsLawful};
 ghost use Rattle.wt_symbol.specs.Heads.{anchor};
-ghost use Rattle.wt_rule.specs.Texts.{HasListAnchors, leaf_text, list_text, pred_text, anchored_text, marked_text, side_text, atom_text, chosen, atoms_text, rule_line, head_line, end_line};
+ghost use Rattle.wt_rule.specs.Texts.{HasListAnchors, leaf_text, list_text, pred_text, anchored_text, marked_text, side_text, atom_text, chosen, atoms_text, rule_text, weights_text, rule_line, head_line, end_line};
 
 pub use std::alloc::AllocError as WantOfMemory;
 use std::alloc::Global;
@@ -289,21 +289,45 @@ fn push_atoms(
     push_more(alloc, out, anchors, &atoms[1..])
 }
 
+/// Adds the pair of a rule with its atoms.
+fn push_rule(alloc: Global, out: &mut Vec<u8>, rule: &Rule) -> Result<(), WantOfMemory>
+    requires { IsLawful (pair_of rule.now.pair) }
+    ensures { OnOk result (out.new.items ≡ out.old.items ++ rule_text (pair_of rule.now.pair) rule.now.set) }
+{
+    let anchors = rule.pair.anchors.as_slice();
+    let all = atoms_of(alloc, &rule.pair)?;
+    let atoms = chosen_atoms(alloc, &all, rule.set)?;
+    push_side(alloc, out, anchors, &rule.pair.source)?;
+    push_text(out, " => ")?;
+    push_side(alloc, out, &[], &rule.pair.dest)?;
+    push_text(out, " | ")?;
+    push_atoms(alloc, out, anchors, atoms.as_slice())?;
+    Ok(())
+}
+
+fn two_weights(alloc: Global, source: u32, dest: u32) -> Result<String, WantOfMemory>
+    ensures { IfOk result (λ text. string_bytes text ≡ codes " | " ++ (decimal source ++ (codes " " ++ (decimal dest ++ (10 ∷ []))))) }
+{
+    format!(in alloc; " | {source} {dest}\n")
+}
+
+/// The weights of a pair's sides, as a line ends with them.
+fn weights(alloc: Global, pair: &Pair) -> Result<String, WantOfMemory>
+    requires { IsLawful (pair_of pair.now) }
+    ensures { IfOk result (λ text. string_bytes text ≡ weights_text (pair_of pair.now)) }
+{
+    two_weights(alloc, pair.source.weight(), pair.dest.weight())
+}
+
 /// The line of a rule in a rule file, with LF.
 pub fn write_rule(alloc: Global, rule: &Rule) -> Result<Bytes, WantOfMemory>
     requires { IsLawful (pair_of rule.now.pair) }
     ensures { IfOk result (λ line. line ≡ rule_line rule.now) }
 {
-    let anchors = rule.pair.anchors.as_slice();
-    let all = atoms_of(alloc, &rule.pair)?;
-    let atoms = chosen_atoms(alloc, &all, rule.set)?;
     let mut out = Vec::new(alloc);
-    push_side(alloc, &mut out, anchors, &rule.pair.source)?;
-    push_text(&mut out, " => ")?;
-    push_side(alloc, &mut out, &[], &rule.pair.dest)?;
-    push_text(&mut out, " | ")?;
-    push_atoms(alloc, &mut out, anchors, atoms.as_slice())?;
-    push_text(&mut out, "\n")?;
+    push_rule(alloc, &mut out, rule)?;
+    let weights = weights(alloc, &rule.pair)?;
+    push_text(&mut out, &weights)?;
     Ok(Bytes::from_vec(out))
 }
 
@@ -323,7 +347,7 @@ fn numbered_line(alloc: Global, text: &str, n: u64) -> Result<Bytes, WantOfMemor
 pub fn write_head(alloc: Global, steps: u32) -> Result<Bytes, WantOfMemory>
     ensures { IfOk result (λ line. line ≡ head_line steps) }
 {
-    numbered_line(alloc, "wetune-rules 1 steps=", u64::from(steps))
+    numbered_line(alloc, "wetune-rules 2 steps=", u64::from(steps))
 }
 
 /// The last line of a rule file of so many rules, with LF.

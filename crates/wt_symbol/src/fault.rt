@@ -8,7 +8,7 @@ use crate::side::{Anchors, Pair, Side};
 use std::alloc::{AllocError, Global};
 
 /// How many operators a side of a lawful pair has at most.
-pub const MOST_OPERATORS: u32 = 3;
+pub const MOST_OPERATORS: u32 = 4;
 
 /// The test that a pair does not pass.
 #[derive(Clone, Copy, Debug, PartialEq, Eq)]

@@ -7,3 +7,4 @@ pub mod TowerPairs
 pub mod RuleLines
 pub mod Statuses
 pub mod QueryLaws
+pub mod Alone

@@ -1,5 +1,5 @@
 -- What the top call answers.
-use Rattle.std.specs.Prelude.{ℕ, List, [], ◌∷◌, ◌++◌, codes, MatchResult}
+use Rattle.std.specs.Prelude.{ℕ, List, [], ◌∷◌, ◌++◌, codes, Some, MatchResult}
 use Rattle.std.specs.declared.option.Option.{Option}
 use Rattle.wt_tool.specs.declared.input.Input.{Input}
 use Rattle.wt_tool.specs.declared.words.UsageFault.{UsageFault}
@@ -26,7 +26,7 @@ usage_word NotBuilt = codes "NotBuilt"
 
 -- words that are no command: `usage KIND`
 abbrev pub usage : UsageFault → Outcome
-usage fault = record { status = 1; text = codes "usage " ++ (usage_word fault ++ 10 ∷ []) }
+usage fault = record { status = Some 1; text = codes "usage " ++ (usage_word fault ++ 10 ∷ []) }
 
 -- the outcome of a command, for some inputs that its files may have given; one line a command
 abbrev pub CommandOutcome : (List ℕ → Option (List ℕ)) → (Outcome → Type 0) → Command → Type 0

@@ -1,5 +1,5 @@
 -- What `rewrite` answers.
-use Rattle.std.specs.Prelude.{◌≡◌, ℕ, List, [], ◌∷◌, ◌++◌, Bool, true, false, if◌then◌else◌, codes, map, Ok, Err, Result}
+use Rattle.std.specs.Prelude.{◌≡◌, ℕ, List, [], ◌∷◌, ◌++◌, Bool, true, false, if◌then◌else◌, codes, map, Ok, Err, Some, Result}
 use Rattle.std.specs.Fmt.{decimal}
 use Rattle.std.specs.List.{flat_map, list_any}
 use Rattle.std.specs.Io.KnownBytes.{append_known}
@@ -30,7 +30,7 @@ ended text = text ++ 10 ∷ []
 -- Refused files.
 
 abbrev pub refusing : List ℕ → Outcome
-refusing text = record { status = 2; text = text }
+refusing text = record { status = Some 2; text = text }
 
 -- `fault NAME NotBuilt`
 abbrev pub not_built : List ℕ → Outcome
@@ -81,7 +81,7 @@ status_of true = 4
 status_of false = 0
 
 abbrev pub lines_outcome : List Line → Outcome
-lines_outcome lines = record { status = status_of (any_refused lines); text = lines_text lines }
+lines_outcome lines = record { status = Some (status_of (any_refused lines)); text = lines_text lines }
 
 -- a part of a command puts lines, and tells whether one of them is a refusal
 abbrev pub PutsLines : Type 0 → Option (List ℕ) → Option (List ℕ) → List Line → Result Bool Stop → Type 0

@@ -18,6 +18,9 @@ pub record Names : Type 0 where
   pub schema : List ℕ
   pub queries : List ℕ
 
+abbrev pub named : List ℕ → List ℕ → List ℕ → Names
+named rules schema queries = record { rules = rules; schema = schema; queries = queries }
+
 -- a command with what its words give
 pub data Command : Type 0 where
   Rewrite : Names → Command

@@ -12,6 +12,8 @@ mod stop;
 mod top;
 mod words;
 
+pub use discovering::discover_alone;
+pub use rewriting::rewrite;
 pub use top::wetune;
 
 #[cfg(test)]

@@ -1,13 +1,12 @@
 //! The top call.
 ghost use Rattle.std.specs.Prelude.{◌≡◌, ◌≢◌, ◌≤◌, ◌⊎◌, IsErr, map, string_bytes};
-ghost use Rattle.std.specs.Io.KnownBytes.{append_known};
 ghost use Rattle.wt_io.specs.Causes.{Rose};
 ghost use Rattle.wt_tool.specs.Answers.{Answers, RunOutcome, usage};
 ghost use Rattle.wt_tool.specs.Laws.{KeepsNames, KeepsRows};
-ghost use Rattle.wt_tool.specs.Outcomes.{AppendsPrefix, Ends};
+ghost use Rattle.wt_tool.specs.Outcomes.{AppendsPrefix, Ends, Writes};
 ghost use Rattle.wt_tool.specs.Words.{command_of};
 
-use crate::discovering::discover;
+use crate::discovering::discover_alone;
 use crate::put::put;
 use crate::rewriting::rewrite;
 use crate::words::{Command, UsageFault, read_words};
@@ -40,8 +39,15 @@ fn run<S: Store, K: Sink>(alloc: Global, words: &[String], store: &mut S, sink: 
         (K.written sink.old) (K.written sink.new) result }
 {
     match read_words(words) {
-        Ok(Command::Rewrite(names)) => rewrite(alloc, &names, store, sink),
-        Ok(Command::Discover(bounds)) => discover(alloc, &bounds, sink),
+        Ok(Command::Rewrite(names)) => rewrite(
+            alloc,
+            names.rules,
+            names.schema,
+            names.queries,
+            store,
+            sink,
+        ),
+        Ok(Command::Discover(bounds)) => discover_alone(alloc, &bounds, sink),
         Err(fault) => refuse_words(fault, sink),
     }
 }
@@ -62,7 +68,7 @@ pub fn wetune<R: Threads + Wait + Sync, S: Store, K: Sink, G: Gate + Sync>(
 
     // Every status but 3, 5 and 6 is the outcome's, and the outcome's text was written.
     ensures bytes { result ≢ 3 → result ≢ 5 → result ≢ 6 → RunOutcome (S.told store.old) (map string_bytes words.now)
-        (λ o. (result ≡ o.status) × (K.written sink.new ≡ append_known (K.written sink.old) o.text)) }
+        (λ o. Writes (K.written sink.old) (K.written sink.new) o result) }
 
     // 1 comes exactly where the words are no command.
     ensures usage_only { result ≡ 1 → IsErr (command_of (map string_bytes words.now)) }

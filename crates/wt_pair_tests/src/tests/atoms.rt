@@ -47,9 +47,9 @@ fn number_of_atoms(alloc: Global, text: &str) -> Result<usize, AllocError> {
 }
 
 #[test]
-fn three_joins_have_39_atoms(rt: HostRuntime) -> Result<(), Fail> {
-    let joins = "r0 r1 I45 r2 I23 r3 I01 | r0 |030201";
-    assert_eq!(rt; number_of_atoms(rt.alloc(), joins)?, 39);
+fn four_joins_have_62_atoms(rt: HostRuntime) -> Result<(), Fail> {
+    let joins = "r0 r1 I67 r2 I45 r3 I23 r4 I01 | r0 |04030201";
+    assert_eq!(rt; number_of_atoms(rt.alloc(), joins)?, 62);
     Ok(())
 }
 

@@ -10,7 +10,7 @@ use wt_template::Ops;
 fn bounds(src: u32, dst: u32, ops: u8) -> Option<Bounds>
     ensures { IfSome result IsWithinLimits }
 {
-    if src == 0 || src > 3 || dst > 3 {
+    if src == 0 || src > 4 || dst > 4 {
         return None;
     }
     Some(Bounds {
@@ -42,6 +42,7 @@ fn counted(alloc: Global, src: u32, dst: u32, ops: u8) -> Result<(u64, u64), All
 fn all_pairs_are_counted(rt: HostRuntime) -> Result<(), Fail> {
     for (src, dst, ops, count, lots) in [
         (2, 1, 0b10_0000, 3, 1),
+        (4, 1, 0b10_0000, 7, 1),
         (1, 1, 0b1100, 6, 1),
         (1, 1, 0b11_1111, 20, 1),
         (2, 1, 0b11_1111, 1123, 1),

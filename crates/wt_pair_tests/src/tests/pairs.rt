@@ -16,7 +16,7 @@ static FAULTS: [(&str, &str); 11] = [
     ("r0 r1 P2 I01 | r0 r1 P2 I01 |011", "Some(Weight)"),
     ("r0 r1 P2 I01 | r0 r1 S0 |011", "None"),
     ("r0 r1 P2 I01 | r0 P0 |011", "Some(Root)"),
-    ("r0 P3 P2 P1 P0 | r0 |0000", "Some(Size)"),
+    ("r0 P4 P3 P2 P1 P0 | r0 |00000", "Some(Size)"),
 ];
 
 fn has_fault(alloc: Global, text: &str, expected: &str) -> Result<bool, AllocError> {

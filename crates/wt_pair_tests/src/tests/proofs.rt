@@ -94,9 +94,12 @@ fn rules_of_filters_and_dedups_have_lines(rt: HostRuntime) -> Result<(), Fail> {
     for (text, expected) in [
         (
             "r0 F11 F00 | r0 F01 |00",
-            "Filter<p0,a0@r0>(Filter<p1,a1@r0>(r0)) => Filter<p0,a1>(r0) | AttrsEq(a0,a1) PredEq(p0,p1)\n",
+            "Filter<p0,a0@r0>(Filter<p1,a1@r0>(r0)) => Filter<p0,a1>(r0) | AttrsEq(a0,a1) PredEq(p0,p1) | 2 1\n",
         ),
-        ("r0 D D | r0 D |", "Dedup(Dedup(r0)) => Dedup(r0) | -\n"),
+        (
+            "r0 D D | r0 D |",
+            "Dedup(Dedup(r0)) => Dedup(r0) | - | 6 3\n",
+        ),
         ("r0 D | r0 |", ""),
     ] {
         assert!(rt; has_lines(rt.alloc(), text, expected)?, "{text}");

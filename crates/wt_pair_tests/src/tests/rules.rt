@@ -7,26 +7,30 @@ use wt_rule::{Rule, write_end, write_head, write_rule};
 
 /// A pair, a set of its constraints and the line.
 static LINES: [(&str, u64, &str); 5] = [
-    ("r0 D D | r0 D |", 0, "Dedup(Dedup(r0)) => Dedup(r0) | -\n"),
+    (
+        "r0 D D | r0 D |",
+        0,
+        "Dedup(Dedup(r0)) => Dedup(r0) | - | 6 3\n",
+    ),
     (
         "r0 F11 F00 | r0 F00 |00",
         3,
-        "Filter<p0,a0@r0>(Filter<p1,a1@r0>(r0)) => Filter<p0,a0>(r0) | AttrsEq(a0,a1) PredEq(p0,p1)\n",
+        "Filter<p0,a0@r0>(Filter<p1,a1@r0>(r0)) => Filter<p0,a0>(r0) | AttrsEq(a0,a1) PredEq(p0,p1) | 2 1\n",
     ),
     (
         "r0 r1 L01 | r0 r1 I01 |01",
         0b101_0001,
-        "LeftJoin<a0@r0,a1@r1>(r0,r1) => InnerJoin<a0,a1>(r0,r1) | RelEq(r0,r1) NotNull(r0,a0) RefAttrs(r0,a0,r1,a1)\n",
+        "LeftJoin<a0@r0,a1@r1>(r0,r1) => InnerJoin<a0,a1>(r0,r1) | RelEq(r0,r1) NotNull(r0,a0) RefAttrs(r0,a0,r1,a1) | 7 6\n",
     ),
     (
         "r0 r1 I12 P0 | r0 r1 P2 S1 P0 |001",
         64,
-        "Proj<a0@r0>(InnerJoin<a1@r0,a2@r1>(r0,r1)) => Proj<a0>(InSub<a1>(r0,Proj<a2>(r1))) | Unique(r1,a2)\n",
+        "Proj<a0@r0>(InnerJoin<a1@r0,a2@r1>(r0,r1)) => Proj<a0>(InSub<a1>(r0,Proj<a2>(r1))) | Unique(r1,a2) | 7 6\n",
     ),
     (
         "r0 r1 P1 S0 | r0 |01",
         0b101_0000,
-        "InSub<a0@r0>(r0,Proj<a1@r1>(r1)) => r0 | NotNull(r0,a0) RefAttrs(r0,a0,r1,a1)\n",
+        "InSub<a0@r0>(r0,Proj<a1@r1>(r1)) => r0 | NotNull(r0,a0) RefAttrs(r0,a0,r1,a1) | 5 0\n",
     ),
 ];
 
@@ -51,7 +55,7 @@ fn rules_have_lines(rt: HostRuntime) -> Result<(), Fail> {
 
 fn ends_are_written(alloc: Global) -> Result<bool, AllocError> {
     Ok(
-        write_head(alloc, 8)?.as_slice() == "wetune-rules 1 steps=8\n".as_bytes()
+        write_head(alloc, 8)?.as_slice() == "wetune-rules 2 steps=8\n".as_bytes()
             && write_end(alloc, 5)?.as_slice() == "end 5\n".as_bytes(),
     )
 }

@@ -7,14 +7,11 @@ ghost use Rattle.wt_congruent.specs.Sames.{known_of};
 ghost use Rattle.wt_congruent.specs.Refs.{term_behind, range_behind, cond_behind, TermIs};
 
 use crate::exprs::{same_expr, same_head, same_pieces};
+use crate::places::Places;
 use crate::sames::Sames;
 use crate::refs::{cond_refs, range_refs, term_refs, without};
 use std::alloc::{AllocError, Global};
 use wt_form::{Cond, Conds, FormRange, Ranges, Term, Terms};
-use wt_value::Seq;
-
-/// The places that variables take one after another among those that are left.
-pub type Places = Seq<usize>;
 
 /// The place, and then each of the lists.
 fn push_first(
@@ -26,10 +23,10 @@ fn push_first(
     ensures { OnOk result (out.new.items ≡ out.old.items ++ map (λ ks. j ∷ ks) tails.now) }
 {
     for tail in tails {
-        let mut ks = Vec::new(alloc);
+        let mut ks = Places::new(alloc);
         ks.push(j)?;
-        ks.extend_from_slice(tail.as_slice())?;
-        out.push(Places::from_vec(ks))?;
+        ks.extend(tail.as_slice())?;
+        out.push(ks)?;
     }
     Ok(())
 }
@@ -53,7 +50,7 @@ fn partners(
     Ok(out)
 }
 
-/// Every way to pair the variables.
+/// Every way to pair the variables one to one with those that are left.
 #[cycle(same)]
 pub fn pairings(
     alloc: Global,
@@ -84,6 +81,7 @@ pub fn pairings(
     }
 }
 
+/// Whether a variable goes over the same rows as another one.
 #[cycle(same)]
 pub fn same_range(
     alloc: Global,
@@ -139,6 +137,7 @@ pub fn same_conds(
     }
 }
 
+/// Whether a condition is the same as another one when the variables take these places.
 #[cycle(same)]
 pub fn same_cond(
     alloc: Global,

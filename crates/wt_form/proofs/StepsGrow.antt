@@ -63,7 +63,7 @@ module _ (K L : Known) (more : Grows K L) where
     join = h.join;
     there = h.there;
     joins = h.joins;
-    same = expr_grows K L more (itself rs) e h.e' h.same;
+    same = expr_grows K L more.rel more.attr more.pred (itself rs) e h.e' h.same;
     over = h.over;
     to = h.to;
     leaf = more.rel h.r h.s h.leaf;
@@ -77,7 +77,7 @@ module _ (K L : Known) (more : Grows K L) where
   in_false_why : (rs : Ranges) (cs : Conds) (e : Expr) (h : List Part) (ts : Terms) →
       ((c : Cond) × Has c (conds_list cs) × CondSame K (itself rs) c (is_in e h ts)) ⊎ ByReference K rs cs e ts ⊎ ByJoin K rs cs e ts →
       ((c : Cond) × Has c (conds_list cs) × CondSame L (itself rs) c (is_in e h ts)) ⊎ ByReference L rs cs e ts ⊎ ByJoin L rs cs e ts
-  in_false_why rs cs e h ts (inl (c, has, same)) = inl (c, has, cond_grows K L more (itself rs) c (is_in e h ts) same)
+  in_false_why rs cs e h ts (inl (c, has, same)) = inl (c, has, cond_grows K L more.rel more.attr more.pred (itself rs) c (is_in e h ts) same)
   in_false_why rs cs e h ts (inr (inl q)) = inr (inl (by_reference_grows rs cs e ts q))
   in_false_why rs cs e h ts (inr (inr q)) = inr (inr (by_join_grows rs cs e ts q))
 
@@ -89,7 +89,7 @@ module _ (K L : Known) (more : Grows K L) where
   together_grows : (rs : Ranges) (cs : Conds) (a x y : ℕ) → JoinedTogether K rs cs a x y → JoinedTogether L rs cs a x y
   together_grows rs cs a x y (b, c, p, q, inl j) = (b, c, more.attr b a p, more.attr c a q, inl j)
   together_grows rs cs a x y (b, c, p, q, inr (j, j', e, e', has, has', joins, joins', same)) =
-      (b, c, more.attr b a p, more.attr c a q, inr (j, j', e, e', has, has', joins, joins', expr_grows K L more (itself rs) e e' same))
+      (b, c, more.attr b a p, more.attr c a q, inr (j, j', e, e', has, has', joins, joins', expr_grows K L more.rel more.attr more.pred (itself rs) e e' same))
 
   allowed_grows : (nested : Bool) (rs : Ranges) (cs : Conds) (ps : List Expr) → (nested ≡ true) ⊎ AllDetermined K rs cs ps → (nested ≡ true) ⊎ AllDetermined L rs cs ps
   allowed_grows nested rs cs ps (inl n) = inl n
@@ -103,14 +103,14 @@ module _ (K L : Known) (more : Grows K L) where
     earlier = h.earlier;
     later = h.later;
     is = h.is;
-    same = cond_grows K L more (itself rs) h.earlier h.later h.same;
+    same = cond_grows K L more.rel more.attr more.pred (itself rs) h.earlier h.later h.same;
     gives = h.gives;
   }
   row_grows nested rs cs ps us (by_self_join h) = by_self_join record {
     x = h.x;
     y = h.y;
     place = h.place;
-    same = expr_grows K L more (itself rs) h.x h.y h.same;
+    same = expr_grows K L more.rel more.attr more.pred (itself rs) h.x h.y h.same;
     never_null = never_null_grows rs (others h.place) h.x h.never_null;
     gives = h.gives;
   }
@@ -175,9 +175,9 @@ module _ (K L : Known) (more : Grows K L) where
 
   term_grows : (ks : List ℕ) (rs : Ranges) (cs : Conds) (ps : List Expr) (rs' : Ranges) (cs' : Conds) (ps' : List Expr) → TermSame K ks rs cs ps rs' cs' ps' → TermSame L ks rs cs ps rs' cs' ps'
   term_grows ks rs cs ps rs' cs' ps' h = record {
-    ranges = ranges_grow K L more ks rs (ranges_list rs') h.ranges;
-    conds = conds_grow K L more ks cs (conds_list cs') h.conds;
-    pieces = pieces_grow K L more ks ps ps' h.pieces;
+    ranges = ranges_grow K L more.rel more.attr more.pred ks rs (ranges_list rs') h.ranges;
+    conds = conds_grow K L more.rel more.attr more.pred ks cs (conds_list cs') h.conds;
+    pieces = pieces_grow K L more.rel more.attr more.pred ks ps ps' h.pieces;
   }
 
   pub pair_row_grows : (nested : Bool) (rs : Ranges) (cs : Conds) (ps : List Expr) (rs' : Ranges) (cs' : Conds) (ps' : List Expr) (us : Terms) → PairRow K nested rs cs ps rs' cs' ps' us → PairRow L nested rs cs ps rs' cs' ps' us
@@ -191,8 +191,8 @@ module _ (K L : Known) (more : Grows K L) where
     place = h.place;
     place' = h.place';
     ks = h.ks;
-    values = expr_grows K L more h.ks h.e h.e' h.values;
-    rows = terms_grow K L more h.ts h.us h.rows;
+    values = expr_grows K L more.rel more.attr more.pred h.ks h.e h.e' h.values;
+    rows = terms_grow K L more.rel more.attr more.pred h.ts h.us h.rows;
     same = term_grows h.ks rs (others h.place) ps rs' (others h.place') ps' h.same;
   }
   pair_row_grows nested rs cs ps rs' cs' ps' us (in_second h) = in_second record {
@@ -205,8 +205,8 @@ module _ (K L : Known) (more : Grows K L) where
     place = h.place;
     place' = h.place';
     ks = h.ks;
-    values = expr_grows K L more h.ks h.e h.e' h.values;
-    rows = terms_grow K L more h.ts h.us h.rows;
+    values = expr_grows K L more.rel more.attr more.pred h.ks h.e h.e' h.values;
+    rows = terms_grow K L more.rel more.attr more.pred h.ts h.us h.rows;
     same = term_grows h.ks rs' (others h.place) ps' rs (others h.place') ps h.same;
   }
   pair_row_grows nested rs cs ps rs' cs' ps' us (twin h) = twin record { ks = h.ks; inside = h.inside; same = term_grows h.ks rs cs ps rs' cs' ps' h.same }
@@ -220,4 +220,4 @@ module _ (K L : Known) (more : Grows K L) where
   chain_grows (suc k) f g (inr (h, s, c)) = inr (h, step_grows f h s, chain_grows k h g c)
 
   pub provable_grows : (k : ℕ) (f g : Form) → ProvableForms K k f g → ProvableForms L k f g
-  provable_grows k f g (f', g', c, d, same) = (f', g', chain_grows k f f' c, chain_grows k g g' d, terms_grow K L more f'.terms g'.terms same)
+  provable_grows k f g (f', g', c, d, same) = (f', g', chain_grows k f f' c, chain_grows k g g' d, terms_grow K L more.rel more.attr more.pred f'.terms g'.terms same)

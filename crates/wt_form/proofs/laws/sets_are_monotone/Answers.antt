@@ -10,7 +10,7 @@ pub returns-clause-steps : goal.returns-clause-steps
 returns-clause-steps c = λ K L f g more step. step_grows K L more f g step
 
 pub returns-clause-congruent : goal.returns-clause-congruent
-returns-clause-congruent c = λ K L f g more same. terms_grow K L more f.terms g.terms same
+returns-clause-congruent c = λ K L f g more same. terms_grow K L more.rel more.attr more.pred f.terms g.terms same
 
 pub returns-clause-provable : goal.returns-clause-provable
 returns-clause-provable c = λ p s t steps into h. provable_more p s t into steps h

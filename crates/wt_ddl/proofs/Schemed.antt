@@ -21,7 +21,7 @@ use Rattle.wt_ddl.specs.Grammar.{IsText}
 use Rattle.wt_ddl.specs.Linking.{linked_tables}
 use Rattle.wt_ddl.specs.Reading as spec
 use Rattle.wt_ddl.specs.Reading.{Read}
-use Rattle.wt_ddl.specs.Refusals.{Fault, Checked, refused, odd}
+use Rattle.wt_ddl.specs.Refusals.{Fault, Checked, refused, odd, chain}
 use Rattle.wt_ddl.specs.Schemas.{Reads, first_odd, linked_up, unless_odd, of_tokens, schema_of}
 use Rattle.wt_ddl.proofs.Closed.{IfDone, done_is, IsClosed}
 use Rattle.wt_ddl.proofs.Created.{AreTables, statements_law}
@@ -114,7 +114,8 @@ unfolding schema_of
 whole_sentence bytes = by (lexed bytes) refl
   where
     linked : (ts : List Token) → lexed bytes ≡ Ok ts → (reads : List TableRead) (n : ℕ) → spec.statements bytes (map (lexeme bytes) ts) ≡ Ok (reads, n) → (r : Checked (List Table)) → linked_tables reads ≡ r → IfDone (IsText bytes) r
-    linked ts e reads n f (Ok tables) g = (ts, reads, e, sentence_law bytes (map (lexeme bytes) ts) reads n f, g)
+    linked ts e reads n f (Ok tables) g =
+        let (parts, s, made) = sentence_law bytes (map (lexeme bytes) ts) reads n f in (ts, parts, e, s, ap (λ r. chain r linked_tables) made ∙ g)
     linked ts e reads n f (Err error) g = tt
 
     up : (ts : List Token) → lexed bytes ≡ Ok ts → (r : Read (List TableRead)) → spec.statements bytes (map (lexeme bytes) ts) ≡ r → IfDone (IsText bytes) (linked_up r)

@@ -13,10 +13,10 @@ use Rattle.wt_ddl.specs.declared.syntax.Element.{Element}
 use Rattle.wt_ddl.specs.declared.table.TableRead.{TableRead}
 use Rattle.wt_ddl.specs.Fronts.{at_end, at_word}
 use Rattle.wt_ddl.specs.Grammar as grammar
-use Rattle.wt_ddl.specs.Grammar.{present}
+use Rattle.wt_ddl.specs.Grammar.{Part, present, tables_of}
 use Rattle.wt_ddl.specs.Reading as spec
 use Rattle.wt_ddl.specs.Reading.{Read}
-use Rattle.wt_ddl.specs.Refusals.{refused, Checked}
+use Rattle.wt_ddl.specs.Refusals.{refused, Checked, chain}
 use Rattle.wt_ddl.specs.Settling.{settled}
 use Rattle.wt_ddl.proofs.Repeated.{repeat_ok, one_more_ok}
 use Rattle.wt_ddl.proofs.Repeats.{left_some}
@@ -83,12 +83,12 @@ module _ (bytes : List ℕ) where
       (λ h e. inr (no_tokens ts h, sym (ok_parts tt u 0 n e).1))
       (λ _ e. inl (symbol_sound bytes is_semi refl ts u n e))
 
-  abbrev Created : TableRead → Tokens → Type 0
-  Created t ts = (n : Named) × (es : List Element) × Seq (grammar.Name bytes n) (Parens (Listed (grammar.IsElement bytes)) es) ts × (settled n.name es ≡ Ok t)
+  abbrev Created : Part → Tokens → Type 0
+  Created p = Seq (grammar.Name bytes p.0) (Parens (Listed (grammar.IsElement bytes)) p.1)
 
   -- what stands behind CREATE TABLE, and its end
   create_sound : (tables : List TableRead) (ts : Tokens) (t : TableRead) (n : ℕ) → spec.create bytes tables ts ≡ Ok (t, n)
-      → (m : ℕ) × (k : ℕ) × Took (Seq Unless (Created t)) ts m × Behind (drop m ts) k × (n ≡ m + k)
+      → (x : Part) × (m : ℕ) × (k : ℕ) × (settled x.0.name x.1 ≡ Ok t) × Took (Seq Unless (Created x)) ts m × Behind (drop m ts) k × (n ≡ m + k)
   unfolding spec.create
   create_sound tables ts t n h =
       let (u, m, k, f, g, s) = followed_ok ts (spec.if_not_exists bytes ts) _ t n h in
@@ -100,11 +100,9 @@ module _ (bytes : List ℕ) where
       let (y, named, same) = table_name_sound tables a x i f' in
       let (es, inside, e) = body_sound x b v o f'' in
       let table : settled y.name es ≡ Ok t = ap (λ l. settled l es) same ∙ e ∙ ap Ok (sym is) in
-      let made : Took (Created t) a (i + o) =
-      took_as (Seq (grammar.Name bytes y) (Parens (Listed (grammar.IsElement bytes)) es)) (Created t) a (i + o) (i + o) (λ l z. (y, es, z, table)) refl
-      (took_then (grammar.Name bytes y) (Parens (Listed (grammar.IsElement bytes)) es) a i o (i + o) named inside refl) in
+      let made : Took (Created (y, es)) a (i + o) = took_then (grammar.Name bytes y) (Parens (Listed (grammar.IsElement bytes)) es) a i o (i + o) named inside refl in
       let there : drop o (drop i (drop m ts)) ≡ drop (m + (i + o)) ts = drop-drop o i a ∙ drop-drop (i + o) m ts in
-      (m + (i + o), p, took_then Unless (Created t) ts m (i + o) (m + (i + o)) (unless_sound ts u m f) made refl, subst (λ l. Behind l p) there (ending_sound (drop o b) w p r), omega (arith, s, s', s''))
+      ((y, es), m + (i + o), p, table, took_then Unless (Created (y, es)) ts m (i + o) (m + (i + o)) (unless_sound ts u m f) made refl, subst (λ l. Behind l p) there (ending_sound (drop o b) w p r), omega (arith, s, s', s''))
 
   -- ---- one statement
 
@@ -112,12 +110,12 @@ module _ (bytes : List ℕ) where
   abbrev Stated : List TableRead → List TableRead → Tokens → ℕ → Type 0
   Stated tables all ts n =
       ((all ≡ tables) × Took (Is is_semi) ts n)
-      ⊎ ((t : TableRead) × (all ≡ tables ++ t ∷ []) × Took (Seq (grammar.Create bytes t) (Is is_semi)) ts n)
-      ⊎ ((t : TableRead) × (all ≡ tables ++ t ∷ []) × Took (grammar.Create bytes t) ts n × (drop n ts ≡ []))
+      ⊎ ((x : Part) × (t : TableRead) × (settled x.0.name x.1 ≡ Ok t) × (all ≡ tables ++ t ∷ []) × Took (Seq (grammar.Create bytes x) (Is is_semi)) ts n)
+      ⊎ ((x : Part) × (t : TableRead) × (settled x.0.name x.1 ≡ Ok t) × (all ≡ tables ++ t ∷ []) × Took (grammar.Create bytes x) ts n × (drop n ts ≡ []))
 
-  as_create : (t : TableRead) (a : Tokens) → Seq (Seq (grammar.Word bytes (codes "create")) (grammar.Word bytes (codes "table"))) (Seq Unless (Created t)) a → grammar.Create bytes t a
-  as_create t a (b, c, e, (d, f, g, p, q), (i, j, r, u, (n, es, z, is))) =
-      (n, es, ((d ++ (f ++ i)), j, e ∙ (λ k. g k ++ r k) ∙ append_assoc d f (i ++ j) ∙ ap (λ l. d ++ l) (sym (append_assoc f i j)) ∙ sym (append_assoc d (f ++ i) j), (d, f ++ i, refl, p, (f, i, refl, q, u)), z), is)
+  as_create : (x : Part) (a : Tokens) → Seq (Seq (grammar.Word bytes (codes "create")) (grammar.Word bytes (codes "table"))) (Seq Unless (Created x)) a → grammar.Create bytes x a
+  as_create x a (b, c, e, (d, f, g, p, q), (i, j, r, u, z)) =
+      ((d ++ (f ++ i)), j, e ∙ (λ k. g k ++ r k) ∙ append_assoc d f (i ++ j) ∙ ap (λ l. d ++ l) (sym (append_assoc f i j)) ∙ sym (append_assoc d (f ++ i) j), (d, f ++ i, refl, p, (f, i, refl, q, u)), z)
 
   statement_sound : (tables all : List TableRead) (ts : Tokens) (n : ℕ) → spec.statement bytes tables ts ≡ Ok (all, n) → (1 ≤ n) × Stated tables all ts n
   unfolding spec.statement
@@ -129,49 +127,46 @@ module _ (bytes : List ℕ) where
       let (p, q) = both _ _ h in
       let (m, f, s) = plus_ok 2 (one_more (spec.create bytes) tables (drop 2 ts)) all n e in
       let (t, g, is) = one_more_ok (spec.create bytes) tables all (drop 2 ts) m f in
-      let (i, j, took, behind, s') = create_sound tables (drop 2 ts) t m g in
-      let made : Took (grammar.Create bytes t) ts (2 + i) =
-      took_as _ (grammar.Create bytes t) ts (2 + i) (2 + i) (as_create t) refl
-      (took_then (Seq (grammar.Word bytes (codes "create")) (grammar.Word bytes (codes "table"))) (Seq Unless (Created t)) ts 2 i (2 + i) (two_words bytes (codes "create") (codes "table") ts p q) took refl) in
-      (omega (arith, s), ends t i j is made behind (omega (arith, s, s'))))
+      let (x, i, j, table, took, behind, s') = create_sound tables (drop 2 ts) t m g in
+      let made : Took (grammar.Create bytes x) ts (2 + i) =
+      took_as _ (grammar.Create bytes x) ts (2 + i) (2 + i) (as_create x) refl
+      (took_then (Seq (grammar.Word bytes (codes "create")) (grammar.Word bytes (codes "table"))) (Seq Unless (Created x)) ts 2 i (2 + i) (two_words bytes (codes "create") (codes "table") ts p q) took refl) in
+      (omega (arith, s), ends x t i j table is made behind (omega (arith, s, s'))))
       (λ _ e. no_value _ (all, n) e))
     where
-      ends : (t : TableRead) (i j : ℕ) → all ≡ tables ++ t ∷ [] → Took (grammar.Create bytes t) ts (2 + i) → Behind (drop i (drop 2 ts)) j → n ≡ 2 + i + j → Stated tables all ts n
-      ends t i j is made (inl semi) s = inr (inl (t, is, took_then (grammar.Create bytes t) (Is is_semi) ts (2 + i) j n made (subst (λ l. Took (Is is_semi) l j) (drop-drop i 2 ts) semi) s))
-      ends t i j is made (inr (none, zero_more)) s =
+      ends : (x : Part) (t : TableRead) (i j : ℕ) → settled x.0.name x.1 ≡ Ok t → all ≡ tables ++ t ∷ [] → Took (grammar.Create bytes x) ts (2 + i) → Behind (drop i (drop 2 ts)) j → n ≡ 2 + i + j → Stated tables all ts n
+      ends x t i j table is made (inl semi) s = inr (inl (x, t, table, is, took_then (grammar.Create bytes x) (Is is_semi) ts (2 + i) j n made (subst (λ l. Took (Is is_semi) l j) (drop-drop i 2 ts) semi) s))
+      ends x t i j table is made (inr (none, zero_more)) s =
           let size : 2 + i ≡ n = omega (arith, s, zero_more) in
-          inr (inr (t, is, subst (Took (grammar.Create bytes t) ts) size made, ap (λ k. drop k ts) (sym size) ∙ sym (drop-drop i 2 ts) ∙ none))
+          inr (inr (x, t, table, is, subst (Took (grammar.Create bytes x) ts) size made, ap (λ k. drop k ts) (sym size) ∙ sym (drop-drop i 2 ts) ∙ none))
 
   -- ---- all statements
 
-  abbrev Piece : Option TableRead → Tokens → Type 0
+  abbrev Piece : Option Part → Tokens → Type 0
   Piece o = Seq (grammar.Created bytes o) (Is is_semi)
 
-  more_sentence : (o : Option TableRead) (tables : List TableRead) (ts : Tokens) (n : ℕ) → Took (Piece o) ts n → grammar.Sentence bytes tables (drop n ts) → grammar.Sentence bytes (present (o ∷ []) ++ tables) ts
-  more_sentence o tables ts n (a, b, e, l, p) (os, last, (c, d, f, q, r), is) =
+  more_sentence : (o : Option Part) (parts : List Part) (ts : Tokens) (n : ℕ) → Took (Piece o) ts n → grammar.Sentence bytes parts (drop n ts) → grammar.Sentence bytes (present (o ∷ []) ++ parts) ts
+  more_sentence o parts ts n (a, b, e, l, p) (os, last, (c, d, f, q, r), is) =
       let rest : b ≡ c ++ d = sym (behind_front ts a b n e l) ∙ f in
-      (o ∷ os, last, (a ++ c, d, e ∙ ap (λ z. a ++ z) rest ∙ sym (append_assoc a c d), (a, c, refl, p, q), r), front o ∙ ap (λ l. present (o ∷ []) ++ l) is ∙ sym (joined o))
+      (o ∷ os, last, (a ++ c, d, e ∙ ap (λ z. a ++ z) rest ∙ sym (append_assoc a c d), (a, c, refl, p, q), r), ap (λ l. present (o ∷ []) ++ l) is ∙ sym (joined o))
     where
-      front : (o : Option TableRead) → present (o ∷ []) ++ tables ≡ present (o ∷ []) ++ tables
-      front o = refl
-
-      joined : (o : Option TableRead) → present (o ∷ (os ++ last ∷ [])) ≡ present (o ∷ []) ++ present (os ++ last ∷ [])
+      joined : (o : Option Part) → present (o ∷ (os ++ last ∷ [])) ≡ present (o ∷ []) ++ present (os ++ last ∷ [])
       joined None = refl
       joined (Some t) = refl
 
-  last_sentence : (t : TableRead) (ts : Tokens) (n : ℕ) → Took (grammar.Create bytes t) ts n → drop n ts ≡ [] → grammar.Sentence bytes (t ∷ []) ts
-  last_sentence t ts n (a, b, e, l, p) none =
+  last_sentence : (x : Part) (ts : Tokens) (n : ℕ) → Took (grammar.Create bytes x) ts n → drop n ts ≡ [] → grammar.Sentence bytes (x ∷ []) ts
+  last_sentence x ts n (a, b, e, l, p) none =
       let rest : b ≡ [] = sym (behind_front ts a b n e l) ∙ none in
-      ([], Some t, ([], ts, refl, refl, subst (grammar.Create bytes t) (sym (e ∙ ap (λ z. a ++ z) rest ∙ append-nil a)) p), refl)
+      ([], Some x, ([], ts, refl, refl, subst (grammar.Create bytes x) (sym (e ∙ ap (λ z. a ++ z) rest ∙ append-nil a)) p), refl)
 
   no_sentence : (ts : Tokens) → ts ≡ [] → grammar.Sentence bytes [] ts
   no_sentence ts e = ([], None, ([], ts, refl, refl, e), refl)
 
   -- no tokens create no table
-  no_tables : (tables : List TableRead) → grammar.Sentence bytes tables [] → tables ≡ []
-  no_tables tables ([], None, s, is) = is
-  no_tables tables ([], Some t, (a, b, e, p, (n, es, (c, d, f, (g, i, j, (w, k, h), rest), z), made)), is) = absurd (omega (arith, ap length e, ap length p, ap length f, ap length j, ap length k, length-append a b, length-append c d, length-append g i))
-  no_tables tables (o ∷ os, last, (a, b, e, (c, d, f, (x, y, j, p, (w, k, h)), q), r), is) = absurd (omega (arith, ap length e, ap length f, ap length j, ap length k, length-append a b, length-append c d, length-append x y))
+  no_tables : (parts : List Part) → grammar.Sentence bytes parts [] → parts ≡ []
+  no_tables parts ([], None, s, is) = is
+  no_tables parts ([], Some x, (a, b, e, p, (c, d, f, (g, i, j, (w, k, h), rest), z)), is) = absurd (omega (arith, ap length e, ap length p, ap length f, ap length j, ap length k, length-append a b, length-append c d, length-append g i))
+  no_tables parts (o ∷ os, last, (a, b, e, (c, d, f, (x, y, j, p, (w, k, h)), q), r), is) = absurd (omega (arith, ap length e, ap length f, ap length j, ap length k, length-append a b, length-append c d, length-append x y))
 
   grows : (a b : List TableRead) (ts : Tokens) (m : ℕ) → spec.some_left ts ≡ true → spec.statement bytes a ts ≡ Ok (b, m) → 1 ≤ m
   grows a b ts m h e = (statement_sound a b ts m e).0
@@ -180,8 +175,9 @@ module _ (bytes : List ℕ) where
   none_left [] h = refl
   none_left (t ∷ ts) h = absurd cc
 
+  -- what is added to the tables, and the parts that it is of
   abbrev Rest : List TableRead → List TableRead → Tokens → Type 0
-  Rest tables all ts = (added : List TableRead) × (all ≡ tables ++ added) × grammar.Sentence bytes added ts
+  Rest tables all ts = (parts : List Part) × (added : List TableRead) × (all ≡ tables ++ added) × (tables_of parts ≡ Ok added) × grammar.Sentence bytes parts ts
 
   abbrev Cases : List TableRead → List TableRead → Tokens → ℕ → Type 0
   Cases tables all ts n =
@@ -193,17 +189,21 @@ module _ (bytes : List ℕ) where
   cases tables all ts n h = repeat_ok spec.some_left (spec.statement bytes) left_some grows tables all ts n h
 
   stops : (tables all : List TableRead) (ts : Tokens) → spec.some_left ts ≡ false → tables ≡ all → Rest tables all ts
-  stops tables all ts e f = ([], sym f ∙ sym (append-nil tables), no_sentence ts (none_left ts e))
+  stops tables all ts e f = ([], [], sym f ∙ sym (append-nil tables), refl, no_sentence ts (none_left ts e))
+
+  one_table : (x : Part) (t : TableRead) (parts : List Part) (added : List TableRead) → settled x.0.name x.1 ≡ Ok t → tables_of parts ≡ Ok added → tables_of (x ∷ parts) ≡ Ok (t ∷ added)
+  one_table x t parts added e f = ap (λ r. chain r (λ t. chain (tables_of parts) (λ ts. Ok (t ∷ ts)))) e ∙ ap (λ r. chain r (λ ts. Ok (t ∷ ts))) f
 
   goes : (tables c all : List TableRead) (ts : Tokens) (m : ℕ) → Stated tables c ts m → Rest c all (drop m ts) → Rest tables all ts
-  goes tables c all ts m (inl (same, semi)) (added, e, s) =
-      (added, e ∙ ap (λ l. l ++ added) same, more_sentence None added ts m (took_as (Is is_semi) (Piece None) ts m m (λ a p. ([], a, refl, refl, p)) refl semi) s)
-  goes tables c all ts m (inr (inl (t, same, made))) (added, e, s) =
-      (t ∷ added, e ∙ ap (λ l. l ++ added) same ∙ append_assoc tables (t ∷ []) added, more_sentence (Some t) added ts m made s)
-  goes tables c all ts m (inr (inr (t, same, made, none))) (added, e, s) = (t ∷ added, e ∙ ap (λ l. l ++ added) same ∙ append_assoc tables (t ∷ []) added, last added (no_tables added (subst (grammar.Sentence bytes added) none s)))
+  goes tables c all ts m (inl (same, semi)) (parts, added, e, f, s) =
+      (parts, added, e ∙ ap (λ l. l ++ added) same, f, more_sentence None parts ts m (took_as (Is is_semi) (Piece None) ts m m (λ a p. ([], a, refl, refl, p)) refl semi) s)
+  goes tables c all ts m (inr (inl (x, t, table, same, made))) (parts, added, e, f, s) =
+      (x ∷ parts, t ∷ added, e ∙ ap (λ l. l ++ added) same ∙ append_assoc tables (t ∷ []) added, one_table x t parts added table f, more_sentence (Some x) parts ts m made s)
+  goes tables c all ts m (inr (inr (x, t, table, same, made, none))) (parts, added, e, f, s) =
+      (x ∷ parts, t ∷ added, e ∙ ap (λ l. l ++ added) same ∙ append_assoc tables (t ∷ []) added, one_table x t parts added table f, last parts (no_tables parts (subst (grammar.Sentence bytes parts) none s)))
     where
-      last : (added : List TableRead) → added ≡ [] → grammar.Sentence bytes (t ∷ added) ts
-      last added f = subst (λ l. grammar.Sentence bytes (t ∷ l) ts) (sym f) (last_sentence t ts m made none)
+      last : (parts : List Part) → parts ≡ [] → grammar.Sentence bytes (x ∷ parts) ts
+      last parts g = subst (λ l. grammar.Sentence bytes (x ∷ l) ts) (sym g) (last_sentence x ts m made none)
 
   all_sentences : (bound : ℕ) (tables all : List TableRead) (ts : Tokens) (n : ℕ) → length ts ≤ bound → Cases tables all ts n → Rest tables all ts
   all_sentences bound tables all ts n l (inl (e, f, g)) = stops tables all ts e f
@@ -212,5 +212,6 @@ module _ (bytes : List ℕ) where
       goes tables c all ts m (statement_sound tables c ts m f).1 (all_sentences bound c all (drop m ts) k (omega (arith, l, one, length-drop m ts)) (cases c all (drop m ts) k r))
 
   -- what is read is a sentence, of what was read
-  pub sentence_law : (ts : Tokens) (tables : List TableRead) (n : ℕ) → spec.statements bytes ts ≡ Ok (tables, n) → grammar.Sentence bytes tables ts
-  sentence_law ts tables n e = let (added, is, s) = all_sentences (length ts) [] tables ts n (omega arith) (cases [] tables ts n e) in subst (λ l. grammar.Sentence bytes l ts) (sym is) s
+  pub sentence_law : (ts : Tokens) (tables : List TableRead) (n : ℕ) → spec.statements bytes ts ≡ Ok (tables, n) → (parts : List Part) × grammar.Sentence bytes parts ts × (tables_of parts ≡ Ok tables)
+  sentence_law ts tables n e =
+      let (parts, added, is, f, s) = all_sentences (length ts) [] tables ts n (omega arith) (cases [] tables ts n e) in (parts, s, f ∙ ap Ok (sym is))

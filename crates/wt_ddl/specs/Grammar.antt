@@ -22,7 +22,12 @@ use Rattle.wt_ddl.specs.declared.syntax.Element.TheVariants as elements
 use Rattle.wt_ddl.specs.declared.table.TableRead.{TableRead}
 use Rattle.wt_ddl.specs.Fronts.{named}
 use Rattle.wt_ddl.specs.Linking.{linked_tables}
+use Rattle.wt_ddl.specs.Refusals.{Checked, chain}
 use Rattle.wt_ddl.specs.Settling.{settled}
+
+-- a table's name and its elements
+abbrev pub Part : Type 0
+Part = Named × List Element
 
 -- the values that are there
 abbrev pub present : {A : Type 0} → List (Option A) → List A
@@ -124,21 +129,30 @@ module _ (bytes : List ℕ) where
   abbrev pub Begin : Tokens → Type 0
   Begin = Seq (Word (codes "create")) (Seq (Word (codes "table")) (Maybe (Seq (Word (codes "if")) (Seq (Word (codes "not")) (Word (codes "exists"))))))
 
-  -- create = begin name "(" element { "," element } ")", and the table of these elements
-  abbrev pub Create : TableRead → Tokens → Type 0
-  Create t ts = (n : Named) × (es : List Element) × Seq Begin (Seq (Name n) (Parens (Listed IsElement) es)) ts × (settled n.name es ≡ Ok t)
+  -- create = begin name "(" element { "," element } ")"
+  abbrev pub Create : Part → Tokens → Type 0
+  Create p = Seq Begin (Seq (Name p.0) (Parens (Listed IsElement) p.1))
 
   -- [ create ]
-  abbrev pub Created : Option TableRead → Tokens → Type 0
+  abbrev pub Created : Option Part → Tokens → Type 0
   Created None ts = ts ≡ []
-  Created (Some t) ts = Create t ts
+  Created (Some p) ts = Create p ts
 
   -- { [ create ] ";" } [ create ], and the tables that are created
-  abbrev pub Sentence : List TableRead → Tokens → Type 0
-  Sentence tables ts =
-      (os : List (Option TableRead)) × (o : Option TableRead) × Seq (Each (λ o. Seq (Created o) (Is is_semi)) os) (Created o) ts × (tables ≡ present (os ++ o ∷ []))
+  abbrev pub Sentence : List Part → Tokens → Type 0
+  Sentence parts ts =
+      (os : List (Option Part)) × (o : Option Part) × Seq (Each (λ o. Seq (Created o) (Is is_semi)) os) (Created o) ts × (parts ≡ present (os ++ o ∷ []))
 
--- A text whose tokens are a sentence of tables that are these ones, with the targets of their references.
+-- the tables of such parts, or the first fault of their column lists
+abbrev pub tables_of : List Part → Checked (List TableRead)
+tables_of [] = Ok []
+tables_of (p ∷ ps) = chain (settled p.0.name p.1) (λ t. chain (tables_of ps) (λ ts. Ok (t ∷ ts)))
+
+-- A text whose tokens are a sentence, whatever it names.
+abbrev pub IsSentence : List ℕ → Type 0
+IsSentence bytes = (ts : List Token) × (parts : List Part) × (lexed bytes ≡ Ok ts) × Sentence bytes parts (map (lexeme bytes) ts)
+
+-- A text whose tokens are a sentence of these tables, with the targets of their references.
 abbrev pub IsText : List ℕ → List Table → Type 0
 IsText bytes tables =
-    (ts : List Token) × (reads : List TableRead) × (lexed bytes ≡ Ok ts) × Sentence bytes reads (map (lexeme bytes) ts) × (linked_tables reads ≡ Ok tables)
+    (ts : List Token) × (parts : List Part) × (lexed bytes ≡ Ok ts) × Sentence bytes parts (map (lexeme bytes) ts) × (chain (tables_of parts) linked_tables ≡ Ok tables)

@@ -73,21 +73,27 @@ paired_more Q all n j out out' tails l e o t before ks = (there, back)
   where
     longer : take (n + 1) all ≡ take n all ++ j ∷ []
     longer = take_more all n j l ∙ ap (λ k. take n all ++ k ∷ []) (sym e)
+
     Then : List ℕ → Type 0
     Then seen = (i : ℕ) × Has i seen × (is : List ℕ) × (ks ≡ i ∷ is) × Q i is
+
     there_split : Has ks out ⊎ Has ks (map (λ ks. j ∷ ks) tails) → Then (take n all ++ j ∷ [])
     there_split (inl h) = let r = (before ks).0 h in (r.0, has_left r.0 (take n all) (j ∷ []) r.1, r.2, r.3, r.4)
     there_split (inr h) = let r = has_from_map ks (λ ks. j ∷ ks) tails h in (j, has_right j (take n all) (j ∷ []) (inl refl), r.0, r.2, (t r.0).0 r.1)
+
     there : Has ks out' → Then (take (n + 1) all)
     there h = subst Then (sym longer) (there_split (has_split ks out (map (λ ks. j ∷ ks) tails) (subst (Has ks) o h)))
+
     last : (i : ℕ) → Has i (j ∷ []) → i ≡ j
     last i (inl q) = q
     last i (inr h) = absurd h
+
     back_split : (i : ℕ) (is : List ℕ) → ks ≡ i ∷ is → Q i is → Has i (take n all) ⊎ Has i (j ∷ []) → Has ks (out ++ map (λ ks. j ∷ ks) tails)
     back_split i is q p (inl h) = has_left ks out _ ((before ks).1 (i, h, is, q, p))
     back_split i is q p (inr h) =
         let same = last i h in
         has_right ks out _ (subst (λ k. Has k (map (λ ks. j ∷ ks) tails)) (sym (q ∙ ap (λ k. k ∷ is) same)) (has_map is (λ ks. j ∷ ks) tails ((t is).1 (subst (λ k. Q k is) same p))))
+
     back : Then (take (n + 1) all) → Has ks out'
     back h = let g = subst Then longer h in subst (Has ks) (sym o) (back_split g.0 g.2 g.3 g.4 (has_split g.0 (take n all) (j ∷ []) g.1))
 
@@ -102,9 +108,11 @@ all_paired K r rs gs all n out l partners paired ks = (there ks, back ks)
   where
     whole : take n all ≡ all
     whole = take_all n all l
+
     there : (ks : List ℕ) → Has ks out → RangesSame K ks (range_then r rs) gs
     there ks h = let p = (paired ks).0 h in
         subst (λ k. RangesSame K k (range_then r rs) gs) (sym p.3) ((partners p.0).0 (subst (Has p.0) whole p.1), p.4)
+
     back : (ks : List ℕ) → RangesSame K ks (range_then r rs) gs → Has ks out
     back [] h = absurd h
     back (k ∷ ks) h = (paired (k ∷ ks)).1 (k, subst (Has k) (sym whole) ((partners k).1 h.0), ks, refl, h.1)
@@ -116,9 +124,11 @@ partner_there P j out out' o p before i = (λ h. split (has_split i out (j ∷ [
     last : Has i (j ∷ []) → i ≡ j
     last (inl q) = q
     last (inr h) = absurd h
+
     split : Has i out ⊎ Has i (j ∷ []) → (i < j + 1) × P i
     split (inl h) = let b = (before i).0 h in (omega (arith, b.0), b.1)
     split (inr h) = let q = last h in (omega (arith, q), subst P (sym q) p)
+
     back : (i ≡ j) ⊎ ((i < j) ⊎ (j < i)) → i < j + 1 → P i → Has i (out ++ j ∷ [])
     back (inl q) l pi = has_right i out (j ∷ []) (inl q)
     back (inr (inl q)) l pi = has_left i out (j ∷ []) ((before i).1 (q, pi))
@@ -194,19 +204,19 @@ pub whole_in : (K : Known) (ks : List ℕ) (holds : Bool) (c d : Cond) (x y : Ex
     ((holds ≡ true) ↔ TermsSame K ts' (terms_from zs)) → ((holds ≡ true) ↔ CondSame K ks c d)
 whole_in K ks holds c d x y h h' ts ts' us zs refs a b e o r t w =
     subst (λ k. (holds ≡ true) ↔ CondSame K ks k d) (sym a) (subst (λ k. (holds ≡ true) ↔ CondSame K ks (is_in x h ts) k) (sym b)
-      (with_fact holds (expr_same K ks x y ≡ true) (TermsSame K ts us) e (whole_terms K holds ts us zs refs o r (subst (λ k. (holds ≡ true) ↔ TermsSame K k (terms_from zs)) t w))))
+    (with_fact holds (expr_same K ks x y ≡ true) (TermsSame K ts us) e (whole_terms K holds ts us zs refs o r (subst (λ k. (holds ≡ true) ↔ TermsSame K k (terms_from zs)) t w))))
 
 pub whole_not_in : (K : Known) (ks : List ℕ) (holds : Bool) (c d : Cond) (x y : Expr) (h h' : List Part) (ts ts' us : Terms) (zs refs : List OneTerm) → c ≡ not_in x h ts → d ≡ not_in y h' us → expr_same K ks x y ≡ true → zs ≡ refs → refs ≡ terms_list us → ts' ≡ ts →
     ((holds ≡ true) ↔ TermsSame K ts' (terms_from zs)) → ((holds ≡ true) ↔ CondSame K ks c d)
 whole_not_in K ks holds c d x y h h' ts ts' us zs refs a b e o r t w =
     subst (λ k. (holds ≡ true) ↔ CondSame K ks k d) (sym a) (subst (λ k. (holds ≡ true) ↔ CondSame K ks (not_in x h ts) k) (sym b)
-      (with_fact holds (expr_same K ks x y ≡ true) (TermsSame K ts us) e (whole_terms K holds ts us zs refs o r (subst (λ k. (holds ≡ true) ↔ TermsSame K k (terms_from zs)) t w))))
+    (with_fact holds (expr_same K ks x y ≡ true) (TermsSame K ts us) e (whole_terms K holds ts us zs refs o r (subst (λ k. (holds ≡ true) ↔ TermsSame K k (terms_from zs)) t w))))
 
 pub whole_distinct : (K : Known) (holds : Bool) (r s : FormRange) (h h' : List Part) (ts ts' us : Terms) (zs refs : List OneTerm) → r ≡ distinct_of h ts → s ≡ distinct_of h' us → heads_same K h h' ≡ true → zs ≡ refs → refs ≡ terms_list us → ts' ≡ ts →
     ((holds ≡ true) ↔ TermsSame K ts' (terms_from zs)) → ((holds ≡ true) ↔ RangeSame K r s)
 whole_distinct K holds r s h h' ts ts' us zs refs a b e o q t w =
     subst (λ k. (holds ≡ true) ↔ RangeSame K k s) (sym a) (subst (λ k. (holds ≡ true) ↔ RangeSame K (distinct_of h ts) k) (sym b)
-      (with_fact holds (heads_same K h h' ≡ true) (TermsSame K ts us) e (whole_terms K holds ts us zs refs o q (subst (λ k. (holds ≡ true) ↔ TermsSame K k (terms_from zs)) t w))))
+    (with_fact holds (heads_same K h h' ≡ true) (TermsSame K ts us) e (whole_terms K holds ts us zs refs o q (subst (λ k. (holds ≡ true) ↔ TermsSame K k (terms_from zs)) t w))))
 
 pub term_hit : (K : Known) (t u : OneTerm) (ways : List (List ℕ)) (n : ℕ) (way ks ks' : List ℕ) (gs gs' : List FormRange) (ds ds' : List Cond) → n < length ways → way ≡ get_or ways n way → ks ≡ way → ks' ≡ way → gs ≡ gs' → gs' ≡ ranges_list u.ranges → ds ≡ ds' → ds' ≡ conds_list u.conds →
     ((k : List ℕ) → (Has k ways ↔ RangesSame K k t.ranges gs)) → CondsSame K ks t.conds ds → pieces_same K ks' t.pieces u.pieces ≡ true → TermIs K t u

@@ -5,8 +5,8 @@ mod exprs;
 mod places;
 mod refs;
 mod same;
-mod search;
 mod sames;
+mod search;
 
 pub use exprs::{is_place, same_cols, same_expr, same_head, same_part, same_pieces};
 pub use places::Places;

@@ -8,8 +8,8 @@ ghost use Rattle.wt_congruent.specs.Refs.{term_behind, range_behind, cond_behind
 
 use crate::exprs::{same_expr, same_head, same_pieces};
 use crate::places::Places;
-use crate::sames::Sames;
 use crate::refs::{cond_refs, range_refs, term_refs, without};
+use crate::sames::Sames;
 use std::alloc::{AllocError, Global};
 use wt_form::{Cond, Conds, FormRange, Ranges, Term, Terms};
 
@@ -154,8 +154,10 @@ pub fn same_cond(
             _ => Ok(false),
         },
         Cond::Join(x, y) => match d {
-            Cond::Join(v, w) => Ok(same_expr(sames, ks, *x, *v) && same_expr(sames, ks, *y, *w)
-                || same_expr(sames, ks, *x, *w) && same_expr(sames, ks, *y, *v)),
+            Cond::Join(v, w) => Ok(
+                same_expr(sames, ks, *x, *v) && same_expr(sames, ks, *y, *w)
+                    || same_expr(sames, ks, *x, *w) && same_expr(sames, ks, *y, *v),
+            ),
             _ => Ok(false),
         },
         Cond::In(x, f) => match d {

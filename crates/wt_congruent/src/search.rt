@@ -20,12 +20,7 @@ use wt_symbol::Pair;
 /// Whether two forms are congruent where these symbols are the same.
 ///
 /// Congruent forms weigh the same, so most others are refused at once.
-pub fn congruent_with(
-    alloc: Global,
-    sames: &Sames,
-    f: &Form,
-    g: &Form,
-) -> Result<bool, AllocError>
+pub fn congruent_with(alloc: Global, sames: &Sames, f: &Form, g: &Form) -> Result<bool, AllocError>
     ensures { IfOk result (λ yes. IsTrue yes ↔ Congruent (known_of sames.now) (form_seen f.now) (form_seen g.now)) }
 {
     if f.weight().0 != g.weight().0 {

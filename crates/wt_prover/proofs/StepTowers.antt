@@ -320,7 +320,6 @@ module _ (K : Known) (none : (r a : ℕ) → K.unique r a ≡ false) where
   no_joined rs xs a x y (b, c, p, q, inl j) = joins_test (Of x 0 (Listed b)) (Of y 0 (Listed c)) j.0 j.2 (has_test xs j.0 j.1)
   no_joined rs xs a x y (b, c, p, q, inr j) = joins_test (Of x 0 (Listed b)) j.2 j.0 j.6 (has_test xs j.0 j.4)
 
-
   no_two : (between after : Terms) (rs : Ranges) (cs : Conds) (ps : List Expr) → terms_append between (term_then rs cs ps after) ≡ no_terms → ⊥
   no_two no_terms after rs cs ps e = cc
   no_two (term_then rs' cs' ps' ts) after rs cs ps e = cc

@@ -7,7 +7,6 @@ use Rattle.wt_congruent.proofs.Tells.{classes_tell}
 use Rattle.wt_congruent.proofs.search.congruent.Goals as goal
 
 pub of-requires : goal.of-requires
-
 of-requires c = record { few = subst (λ atoms. length atoms ≤ 64) (sym c.requires.atoms) (few (pair_of c.args.pair.now) c.requires.lawful) }
 
 pub returns : goal.returns

@@ -4,7 +4,7 @@ use Rattle.std.proofs.lemmas.Result.{IfOk-from_err}
 use Rattle.std.specs.Prelude.{Ok, Err, Some, None, IsErr, MatchResult, Result}
 use Rattle.std.specs.declared.option.Option.{Option}
 use Rattle.wt_tool.specs.declared.input.Input.{Input}
-use Rattle.wt_tool.specs.declared.words.UsageFault.{UsageFault}
+use Rattle.wt_tool.specs.declared.words.UsageRefusal.{UsageRefusal}
 use Rattle.wt_tool.specs.Answers.{Answers, CommandOutcome, RunOutcome, WithInputs, usage}
 use Rattle.wt_pair.specs.declared.bounds.Bounds.{Bounds}
 use Rattle.wt_tool.specs.Discovering.{IsDiscovered}
@@ -123,7 +123,7 @@ module _ {told : List ℕ → Option (List ℕ)} {words : List (List ℕ)} {read
         | Err fault ↦ λ k. search rules
       ] h.outcome
 
-  one_where : (fault : UsageFault) → Ends read write old new (usage fault) s → (s ≡ 1) ⊎ (s ≡ 3) ⊎ (s ≡ 5) ⊎ (s ≡ 6)
+  one_where : (fault : UsageRefusal) → Ends read write old new (usage fault) s → (s ≡ 1) ⊎ (s ≡ 3) ⊎ (s ≡ 5) ⊎ (s ≡ 6)
   one_where fault ends =
       let done : s ≢ 3 → s ≢ 5 → s ≢ 6 → 1 ≡ s = λ a b c. same_status 1 s (ends.done a b c).0 in
       grind (arith, done)
@@ -131,7 +131,7 @@ module _ {told : List ℕ → Option (List ℕ)} {words : List (List ℕ)} {read
   pub usage_where : IsErr (command_of words) → (s ≡ 1) ⊎ (s ≡ 3) ⊎ (s ≡ 5) ⊎ (s ≡ 6)
   usage_where =
       elim (command_of words) as (λ v. MatchResult v (CommandOutcome told (λ o. Ends read write old new o s)) (λ fault. Ends read write old new (usage fault) s) → IsErr v → (s ≡ 1) ⊎ (s ≡ 3) ⊎ (s ≡ 5) ⊎ (s ≡ 6)) [
-        | Ok command ↦ λ k refused. absurd (IfOk-from_err {T = Command} {E = UsageFault} (Ok command) (λ _. ⊥) refused)
+        | Ok command ↦ λ k refused. absurd (IfOk-from_err {T = Command} {E = UsageRefusal} (Ok command) (λ _. ⊥) refused)
         | Err fault ↦ λ k refused. one_where fault k
       ] h.outcome
 

@@ -15,6 +15,3 @@ mod words;
 pub use discovering::discover_alone;
 pub use rewriting::rewrite;
 pub use top::wetune;
-
-#[cfg(test)]
-mod tests;

@@ -246,7 +246,7 @@ fn try_rewrite<S: Store, K: Sink>(
     answer(alloc, names, &files, sink)
 }
 
-fn rewrite_files<S: Store, K: Sink>(
+pub(crate) fn rewrite_files<S: Store, K: Sink>(
     alloc: Global,
     names: &Names<'_>,
     store: &mut S,

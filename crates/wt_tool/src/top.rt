@@ -8,26 +8,36 @@ ghost use Rattle.wt_tool.specs.Words.{command_of};
 
 use crate::discovering::discover_alone;
 use crate::put::put;
-use crate::rewriting::rewrite;
-use crate::words::{Command, UsageFault, read_words};
+use crate::rewriting::rewrite_files;
+use crate::words::{Command, UsageRefusal, read_words};
 use std::alloc::Global;
 use std::sync::Wait;
 use std::thread::Threads;
 use wt_io::{Gate, Sink, Store};
+use wt_words::UsageFault;
 
 // The line of words that are refused.
-fn usage_line(fault: UsageFault) -> &'static [u8]
-    ensures { result.now ≡ (usage fault).text }
+fn usage_line(refusal: UsageRefusal) -> &'static [u8]
+    ensures { result.now ≡ (usage refusal).text }
 {
-    match fault {
-        UsageFault::NotBuilt => b"usage NotBuilt\n",
+    match refusal {
+        UsageRefusal::Fault(UsageFault::NoCommand) => b"usage NoCommand\n",
+        UsageRefusal::Fault(UsageFault::UnknownCommand) => b"usage UnknownCommand\n",
+        UsageRefusal::Fault(UsageFault::WordCount) => b"usage WordCount\n",
+        UsageRefusal::Fault(UsageFault::UnknownKey) => b"usage UnknownKey\n",
+        UsageRefusal::Fault(UsageFault::RepeatedKey) => b"usage RepeatedKey\n",
+        UsageRefusal::Fault(UsageFault::BadNumber) => b"usage BadNumber\n",
+        UsageRefusal::Fault(UsageFault::OutOfRange) => b"usage OutOfRange\n",
+        UsageRefusal::Fault(UsageFault::BadOps) => b"usage BadOps\n",
+        UsageRefusal::Fault(UsageFault::MissingKey) => b"usage MissingKey\n",
+        UsageRefusal::NotBuilt => b"usage NotBuilt\n",
     }
 }
 
-fn refuse_words<K: Sink>(fault: UsageFault, sink: &mut K) -> u8
-    ensures { Ends ⊥ (Rose (K.faults sink.old) (K.faults sink.new)) (K.written sink.old) (K.written sink.new) (usage fault) result }
+fn refuse_words<K: Sink>(refusal: UsageRefusal, sink: &mut K) -> u8
+    ensures { Ends ⊥ (Rose (K.faults sink.old) (K.faults sink.new)) (K.written sink.old) (K.written sink.new) (usage refusal) result }
 {
-    match put(sink, usage_line(fault)) {
+    match put(sink, usage_line(refusal)) {
         Ok(()) => 1,
         Err(stop) => stop.status(),
     }
@@ -39,16 +49,9 @@ fn run<S: Store, K: Sink>(alloc: Global, words: &[String], store: &mut S, sink: 
         (K.written sink.old) (K.written sink.new) result }
 {
     match read_words(words) {
-        Ok(Command::Rewrite(names)) => rewrite(
-            alloc,
-            names.rules,
-            names.schema,
-            names.queries,
-            store,
-            sink,
-        ),
+        Ok(Command::Rewrite(names)) => rewrite_files(alloc, &names, store, sink),
         Ok(Command::Discover(bounds)) => discover_alone(alloc, &bounds, sink),
-        Err(fault) => refuse_words(fault, sink),
+        Err(refusal) => refuse_words(refusal, sink),
     }
 }
 
@@ -70,7 +73,7 @@ pub fn wetune<R: Threads + Wait + Sync, S: Store, K: Sink, G: Gate + Sync>(
     ensures bytes { result ≢ 3 → result ≢ 5 → result ≢ 6 → RunOutcome (S.told store.old) (map string_bytes words.now)
         (λ o. Writes (K.written sink.old) (K.written sink.new) o result) }
 
-    // 1 comes exactly where the words are no command.
+    // 1 comes exactly where the words are no command that is built.
     ensures usage_only { result ≡ 1 → IsErr (command_of (map string_bytes words.now)) }
     ensures usage_where { IsErr (command_of (map string_bytes words.now)) → (result ≡ 1) ⊎ (result ≡ 3) ⊎ (result ≡ 5) ⊎ (result ≡ 6) }
 

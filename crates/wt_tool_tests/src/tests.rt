@@ -1,4 +1,4 @@
-use super::*;
+//! Runs of `wetune` over files in memory.
 use std::alloc::Global;
 use std::io;
 use std::process::Abort;
@@ -6,6 +6,7 @@ use std::sync::Wait;
 use std::test::Fail;
 use std::thread::Threads;
 use wt_io::{CallList, Files, MemFile, MemSink, MemStore, NoGate};
+use wt_tool::wetune;
 use wt_value::Bytes;
 
 const NO_RULES: &[u8] = b"wetune-rules 1 steps=8\nend 0\n";
@@ -17,6 +18,8 @@ CREATE TABLE o (id INTEGER PRIMARY KEY, c INTEGER REFERENCES cust (id), d INTEGE
 ";
 
 const QUERY: &[u8] = b"SELECT t.a, t.b FROM t;";
+
+const TWO_QUERIES: &[u8] = b"SELECT t.a, t.b FROM t;SELECT t.a, t.b FROM t;";
 
 const LINE: &[u8] = b"SELECT q0.a AS a, q0.b AS b FROM t AS q0;\n";
 
@@ -67,52 +70,87 @@ fn words(alloc: Global, text: &str) -> io::Result<Vec<String>> {
 }
 
 /// A run, and what it must answer. A failing call is a number from 1, or 0 for none.
-#[derive(Clone, Copy)]
-struct Case {
-    words: &'static str,
-    schema: &'static [u8],
-    queries: &'static [u8],
+struct Case<'a> {
+    words: &'a str,
+    schema: &'a [u8],
+    queries: &'a [u8],
     failing_read: u64,
     failing_write: u64,
     status: u8,
-    written: &'static [u8],
+    written: &'a [u8],
 }
 
-const PLAIN: Case = Case {
-    words: "rewrite A S Q",
-    schema: SCHEMA,
-    queries: QUERY,
-    failing_read: 0,
-    failing_write: 0,
-    status: 0,
-    written: LINE,
-};
-
-fn answers<R: Threads + Wait + Sync + Abort + AllocGlobal>(
+fn run<R: Threads + Wait + Sync + Abort + AllocGlobal>(
     rt: &R,
-    names: &str,
-    store: &mut MemStore,
+    case: &Case<'_>,
     sink: &mut MemSink,
 ) -> Result<u8, Fail> {
-    let words = words(rt.alloc(), names)?;
-    Ok(wetune(rt, rt.alloc(), &words, store, sink, &NoGate))
+    let alloc = rt.alloc();
+    let words = words(alloc, case.words)?;
+    let mut store = store(alloc, case.schema, case.queries, case.failing_read)?;
+    Ok(wetune(rt, alloc, &words, &mut store, sink, &NoGate))
 }
 
-fn check<R: Threads + Wait + Sync + Abort + AllocGlobal>(rt: &R, case: &Case) -> Result<(), Fail> {
-    let alloc = rt.alloc();
-    let mut store = store(alloc, case.schema, case.queries, case.failing_read)?;
-    let mut sink = MemSink::new(alloc, 4096, calls(alloc, case.failing_write)?)?;
-    let status = answers(rt, case.words, &mut store, &mut sink)?;
-    assert_eq!(rt; status, case.status, "{}", case.words);
-    assert_eq!(rt; sink.as_bytes(), case.written, "{}", case.words);
-    Ok(())
+/// Whether the run has the status and writes the bytes.
+fn answers<R: Threads + Wait + Sync + Abort + AllocGlobal>(
+    rt: &R,
+    case: &Case<'_>,
+) -> Result<bool, Fail> {
+    let mut sink = MemSink::new(rt.alloc(), 4096, calls(rt.alloc(), case.failing_write)?)?;
+    let status = run(rt, case, &mut sink)?;
+    Ok(status == case.status && sink.as_bytes() == case.written)
+}
+
+/// Whether these statements, over this schema, have the status and the lines.
+fn rewrites<R: Threads + Wait + Sync + Abort + AllocGlobal>(
+    rt: &R,
+    schema: &[u8],
+    queries: &[u8],
+    status: u8,
+    written: &[u8],
+) -> Result<bool, Fail> {
+    answers(
+        rt,
+        &Case {
+            words: "rewrite A S Q",
+            schema,
+            queries,
+            failing_read: 0,
+            failing_write: 0,
+            status,
+            written,
+        },
+    )
+}
+
+/// Whether these words, over the files of the first example, have the status and write the bytes.
+fn says<R: Threads + Wait + Sync + Abort + AllocGlobal>(
+    rt: &R,
+    words: &str,
+    failing_read: u64,
+    failing_write: u64,
+    status: u8,
+    written: &[u8],
+) -> Result<bool, Fail> {
+    answers(
+        rt,
+        &Case {
+            words,
+            schema: SCHEMA,
+            queries: TWO_QUERIES,
+            failing_read,
+            failing_write,
+            status,
+            written,
+        },
+    )
 }
 
 #[test]
 fn rewrites_statements(rt: HostRuntime) -> Result<(), Fail> {
-    check(&rt, &PLAIN)?;
     for (queries, written) in [
-        (b"".as_slice(), b"".as_slice()),
+        (QUERY, LINE),
+        (b"", b""),
         (b" ;; \n-- nothing\n", b""),
         (b"SELECT t.a, t.b FROM t;SELECT t.a, t.b FROM t;", TWO_LINES),
         (
@@ -120,34 +158,18 @@ fn rewrites_statements(rt: HostRuntime) -> Result<(), Fail> {
             b"SELECT q0.b AS b FROM t AS q0;\n",
         ),
     ] {
-        check(
-            &rt,
-            &Case {
-                queries,
-                written,
-                ..PLAIN
-            },
-        )?;
+        assert!(rt; rewrites(&rt, SCHEMA, queries, 0, written)?);
     }
     Ok(())
 }
 
 #[test]
 fn refuses_statements(rt: HostRuntime) -> Result<(), Fail> {
-    check(
-        &rt,
-        &Case {
-            schema: ORDERS,
-            queries: REFUSED,
-            status: 4,
-            written: REFUSED_LINES,
-            ..PLAIN
-        },
-    )?;
+    assert!(rt; rewrites(&rt, ORDERS, REFUSED, 4, REFUSED_LINES)?);
     for (queries, written) in [
         (
-            b"SELECT t.a FROM t WHERE t.a = 1;".as_slice(),
-            b"-- refused NotBuilt at 0\n".as_slice(),
+            b"SELECT t.a FROM t WHERE t.a = 1;",
+            b"-- refused NotBuilt at 0\n",
         ),
         (b" SELECT t.c FROM t;", b"-- refused NotBuilt at 1\n"),
         (b"SELECT u.a FROM t;", b"-- refused NotBuilt at 0\n"),
@@ -176,43 +198,19 @@ fn refuses_statements(rt: HostRuntime) -> Result<(), Fail> {
             b"-- refused NotBuilt at 0\n",
         ),
     ] {
-        check(
-            &rt,
-            &Case {
-                queries,
-                status: 4,
-                written,
-                ..PLAIN
-            },
-        )?;
+        assert!(rt; rewrites(&rt, SCHEMA, queries, 4, written)?);
     }
     Ok(())
 }
 
 #[test]
 fn refuses_files(rt: HostRuntime) -> Result<(), Fail> {
-    check(
-        &rt,
-        &Case {
-            queries: b"'",
-            status: 2,
-            written: b"fault Q offset 0 OpenQuote\n",
-            ..PLAIN
-        },
-    )?;
-    check(
-        &rt,
-        &Case {
-            queries: b"\xff",
-            status: 2,
-            written: b"fault Q offset 0 NotText\n",
-            ..PLAIN
-        },
-    )?;
+    assert!(rt; rewrites(&rt, SCHEMA, b"'", 2, b"fault Q offset 0 OpenQuote\n")?);
+    assert!(rt; rewrites(&rt, SCHEMA, b"\xff", 2, b"fault Q offset 0 NotText\n")?);
     for (schema, written) in [
         (
-            b"CREATE TABLE t (a INTEGER CHECK (a > 0));".as_slice(),
-            b"fault S offset 26 UnsupportedClause\n".as_slice(),
+            b"CREATE TABLE t (a INTEGER CHECK (a > 0));",
+            b"fault S offset 26 UnsupportedClause\n",
         ),
         (
             b"CREATE INDEX i ON t (a);",
@@ -227,126 +225,95 @@ fn refuses_files(rt: HostRuntime) -> Result<(), Fail> {
             b"fault S offset 37 ReferenceNotKey\n",
         ),
     ] {
-        check(
-            &rt,
-            &Case {
-                schema,
-                status: 2,
-                written,
-                ..PLAIN
-            },
-        )?;
+        assert!(rt; rewrites(&rt, schema, QUERY, 2, written)?);
     }
-    check(
-        &rt,
-        &Case {
-            words: "rewrite Q S Q",
-            status: 2,
-            written: b"fault Q NotBuilt\n",
-            ..PLAIN
-        },
-    )
+    assert!(rt; says(&rt, "rewrite Q S Q", 0, 0, 2, b"fault Q NotBuilt\n")?);
+    Ok(())
 }
 
 #[test]
 fn stops_at_faults(rt: HostRuntime) -> Result<(), Fail> {
-    check(
-        &rt,
-        &Case {
-            failing_read: 4,
-            status: 3,
-            written: b"",
-            ..PLAIN
-        },
-    )?;
-    check(
-        &rt,
-        &Case {
-            words: "rewrite A S missing",
-            status: 3,
-            written: b"",
-            ..PLAIN
-        },
-    )?;
-    check(
-        &rt,
-        &Case {
-            failing_write: 1,
-            status: 5,
-            written: b"",
-            ..PLAIN
-        },
-    )?;
-    let queries = b"SELECT t.a, t.b FROM t;SELECT t.a, t.b FROM t;".as_slice();
-    check(
-        &rt,
-        &Case {
-            queries,
-            failing_write: 2,
-            status: 5,
-            written: LINE,
-            ..PLAIN
-        },
-    )
+    for (words, failing_read, failing_write, status, written) in [
+        ("rewrite A S Q", 4, 0, 3, b"".as_slice()),
+        ("rewrite A S missing", 0, 0, 3, b""),
+        ("rewrite A S Q", 0, 1, 5, b""),
+        ("rewrite A S Q", 0, 2, 5, LINE),
+    ] {
+        assert!(rt;
+            says(&rt, words, failing_read, failing_write, status, written)?,
+            "{words}"
+        );
+    }
+    Ok(())
 }
 
 const FILTER_RULES: &str =
-    "Filter<p0,a0@r0>(Filter<p1,a1@r0>(r0)) => Filter<p0,a0>(r0) | AttrsEq(a0,a1) PredEq(p0,p1)
-Filter<p0,a0@r0>(Filter<p1,a1@r0>(r0)) => Filter<p0,a1>(r0) | AttrsEq(a0,a1) PredEq(p0,p1)
-Filter<p0,a0@r0>(Filter<p1,a1@r0>(r0)) => Filter<p1,a0>(r0) | AttrsEq(a0,a1) PredEq(p0,p1)
-Filter<p0,a0@r0>(Filter<p1,a1@r0>(r0)) => Filter<p1,a1>(r0) | AttrsEq(a0,a1) PredEq(p0,p1)
+    "Filter<p0,a0@r0>(Filter<p1,a1@r0>(r0)) => Filter<p0,a0>(r0) | AttrsEq(a0,a1) PredEq(p0,p1) | 2 1
+Filter<p0,a0@r0>(Filter<p1,a1@r0>(r0)) => Filter<p0,a1>(r0) | AttrsEq(a0,a1) PredEq(p0,p1) | 2 1
+Filter<p0,a0@r0>(Filter<p1,a1@r0>(r0)) => Filter<p1,a0>(r0) | AttrsEq(a0,a1) PredEq(p0,p1) | 2 1
+Filter<p0,a0@r0>(Filter<p1,a1@r0>(r0)) => Filter<p1,a1>(r0) | AttrsEq(a0,a1) PredEq(p0,p1) | 2 1
 ";
 
-const DEDUP_RULE: &str = "Dedup(Dedup(r0)) => Dedup(r0) | -\n";
+const DEDUP_RULE: &str = "Dedup(Dedup(r0)) => Dedup(r0) | - | 6 3\n";
 
-const THREE_DEDUP_RULES: &str = "Dedup(Dedup(r0)) => Dedup(r0) | -
-Dedup(Dedup(Dedup(r0))) => Dedup(r0) | -
-Dedup(Dedup(Dedup(r0))) => Dedup(Dedup(r0)) | -
+const FOUR_DEDUP_RULES: &str = "Dedup(Dedup(r0)) => Dedup(r0) | - | 6 3
+Dedup(Dedup(Dedup(r0))) => Dedup(r0) | - | 9 3
+Dedup(Dedup(Dedup(Dedup(r0)))) => Dedup(r0) | - | 12 3
 ";
+
+const THREE_DEDUP_RULES: &str = "Dedup(Dedup(r0)) => Dedup(r0) | - | 6 3
+Dedup(Dedup(Dedup(r0))) => Dedup(r0) | - | 9 3
+Dedup(Dedup(Dedup(r0))) => Dedup(Dedup(r0)) | - | 9 6
+";
+
+fn discovers<R: Threads + Wait + Sync + Abort + AllocGlobal>(
+    rt: &R,
+    words: &str,
+    filters: &str,
+    dedups: &str,
+    count: u64,
+) -> Result<bool, Fail> {
+    let written = format!(in rt.alloc(); "wetune-rules 2 steps=8\n{filters}{dedups}end {count}\n")?;
+    says(rt, words, 0, 0, 0, written.as_bytes())
+}
 
 #[test]
 fn discovers_rules(rt: HostRuntime) -> Result<(), Fail> {
-    let alloc = rt.alloc();
     for (words, filters, dedups, count) in [
         ("discover src=2 dst=1 ops=F", FILTER_RULES, "", 4),
         ("discover src=2 dst=1 ops=D", "", DEDUP_RULE, 1),
         ("discover src=2 dst=1 ops=FD", FILTER_RULES, DEDUP_RULE, 5),
         ("discover src=2 dst=1 ops=DF", FILTER_RULES, DEDUP_RULE, 5),
         ("discover src=3 dst=2 ops=D", "", THREE_DEDUP_RULES, 3),
+        (
+            "discover ops=D dst=1 src=4 steps=8",
+            "",
+            FOUR_DEDUP_RULES,
+            3,
+        ),
         ("discover src=1 dst=0 ops=FD", "", "", 0),
     ] {
-        let written = format!(in alloc; "wetune-rules 1 steps=8\n{filters}{dedups}end {count}\n")?;
-        let mut store = store(alloc, SCHEMA, QUERY, 0)?;
-        let mut sink = MemSink::new(alloc, 4096, calls(alloc, 0)?)?;
-        let status = answers(&rt, words, &mut store, &mut sink)?;
-        assert_eq!(rt; status, 0, "{words}");
-        assert_eq!(rt; sink.as_bytes(), written.as_bytes(), "{words}");
+        assert!(rt; discovers(&rt, words, filters, dedups, count)?, "{words}");
     }
     Ok(())
 }
 
 #[test]
 fn refuses_words(rt: HostRuntime) -> Result<(), Fail> {
-    for words in [
-        "",
-        "rewrite A S",
-        "rewrite A S Q more",
-        "check A",
-        "discover src=4 dst=1 ops=F",
-        "discover src=0 dst=1 ops=F",
-        "discover src=2 dst=4 ops=F",
-        "discover src=2 dst=1 ops=P",
-        "discover dst=1 src=2 ops=F",
+    for (words, written) in [
+        ("", b"usage NoCommand\n".as_slice()),
+        ("find", b"usage UnknownCommand\n"),
+        ("rewrite A S", b"usage WordCount\n"),
+        ("rewrite A S Q more", b"usage WordCount\n"),
+        ("check A", b"usage NotBuilt\n"),
+        ("demo 0 1", b"usage NotBuilt\n"),
+        ("discover src=5 dst=1 ops=D", b"usage OutOfRange\n"),
+        ("discover src=2 ops=D", b"usage MissingKey\n"),
+        ("discover src=2 dst=1 ops=DD", b"usage BadOps\n"),
+        ("discover src=2 dst=1 ops=P", b"usage NotBuilt\n"),
+        ("discover src=2 dst=1 ops=D workers=2", b"usage NotBuilt\n"),
     ] {
-        check(
-            &rt,
-            &Case {
-                words,
-                status: 1,
-                written: b"usage NotBuilt\n",
-                ..PLAIN
-            },
-        )?;
+        assert!(rt; says(&rt, words, 0, 0, 1, written)?, "{words}");
     }
     Ok(())
 }
@@ -361,25 +328,20 @@ fn long_statement(alloc: Global, length: usize) -> io::Result<Vec<u8>> {
     Ok(text)
 }
 
-fn check_length<R: Threads + Wait + Sync + Abort + AllocGlobal>(
+fn keeps_length<R: Threads + Wait + Sync + Abort + AllocGlobal>(
     rt: &R,
     length: usize,
     status: u8,
     written: &[u8],
-) -> Result<(), Fail> {
-    let alloc = rt.alloc();
-    let queries = long_statement(alloc, length)?;
-    let mut store = store(alloc, SCHEMA, &queries, 0)?;
-    let mut sink = MemSink::new(alloc, 4096, CallList::new(alloc))?;
-    let found = answers(rt, "rewrite A S Q", &mut store, &mut sink)?;
-    assert_eq!(rt; found, status, "{length} bytes");
-    assert_eq!(rt; sink.as_bytes(), written, "{length} bytes");
-    Ok(())
+) -> Result<bool, Fail> {
+    let queries = long_statement(rt.alloc(), length)?;
+    rewrites(rt, SCHEMA, &queries, status, written)
 }
 
 #[test]
 fn keeps_limits(rt: HostRuntime) -> Result<(), Fail> {
-    check_length(&rt, 65_536, 0, LINE)?;
-    check_length(&rt, 65_537, 4, b"-- refused TooLong at 0\n")?;
-    check_length(&rt, 16_777_217, 2, b"fault Q offset 16777216 TooLong\n")
+    assert!(rt; keeps_length(&rt, 65_536, 0, LINE)?);
+    assert!(rt; keeps_length(&rt, 65_537, 4, b"-- refused TooLong at 0\n")?);
+    assert!(rt; keeps_length(&rt, 16_777_217, 2, b"fault Q offset 16777216 TooLong\n")?);
+    Ok(())
 }

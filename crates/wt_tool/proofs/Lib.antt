@@ -8,3 +8,4 @@ pub mod RuleLines
 pub mod Statuses
 pub mod QueryLaws
 pub mod Alone
+pub mod RuleBags

@@ -2,7 +2,7 @@
 ghost use Rattle.std.specs.Prelude.{◌≡◌, ◌≢◌, ◌≤◌, ◌⊎◌, IsErr, map, string_bytes};
 ghost use Rattle.wt_io.specs.Causes.{Rose};
 ghost use Rattle.wt_tool.specs.Answers.{Answers, RunOutcome, usage};
-ghost use Rattle.wt_tool.specs.Laws.{KeepsNames, KeepsRows};
+ghost use Rattle.wt_tool.specs.Laws.{KeepsNames, KeepsRows, RulesHaveOneBag};
 ghost use Rattle.wt_tool.specs.Outcomes.{AppendsPrefix, Ends, Writes};
 ghost use Rattle.wt_tool.specs.Words.{command_of};
 
@@ -85,6 +85,9 @@ pub fn wetune<R: Threads + Wait + Sync, S: Store, K: Sink, G: Gate + Sync>(
     ensures prefix { (result ≡ 5) ⊎ (result ≡ 6) → RunOutcome (S.told store.old) (map string_bytes words.now)
         (λ o. AppendsPrefix (K.written sink.old) (K.written sink.new) o.text) }
     ensures known { result ≤ 6 }
+
+    // What a rule of a written file means.
+    ensures one_bag { RulesHaveOneBag }
 
     // What a rewritten query has in common with its statement, on every database that satisfies the schema.
     ensures rows { KeepsRows }

@@ -5,20 +5,16 @@ use Rattle.std.proofs.lemmas.Bool.{cases_lt}
 use Rattle.std.proofs.lemmas.Option.{slice_get-get_or, slice_get_within}
 use Rattle.wt_bag.specs.Bags.{among, Each}
 use Rattle.wt_bag.specs.Choices.{Has}
-use Rattle.wt_bag.proofs.HasLaws.{list_any_has, has_list_any}
+use Rattle.wt_bag.proofs.HasLaws.{list_any_has, has_list_any, each_from_has}
 use Rattle.wt_bag.proofs.UniqueLists.{each_has}
-use Rattle.wt_value.specs.Values.{Tuple, row_same, row_matches}
+use Rattle.wt_value.specs.Values.{Tuple, pick, row_same, row_matches}
 use Rattle.wt_value.proofs.Comparing.{row_same_decides}
 use Rattle.wt_constraint.specs.declared.atom.Atom.{Atom}
 use Rattle.wt_constraint.specs.declared.set.AtomSet.{AtomSet}
 use Rattle.wt_constraint.specs.Sets.{HasAtom}
 use Rattle.wt_constraint.proofs.SetLemmas.{not_from_64}
 use Rattle.wt_instance.specs.declared.instance.Instance.{Instance}
-use Rattle.wt_instance.specs.Meeting.{pick, IsUnique, Holds, AtomsHold}
-
-each_from_has : {X : Type 0} (P : X → Type 0) (xs : List X) → ((x : X) → Has x xs → P x) → Each P xs
-each_from_has P [] h = tt
-each_from_has P (x ∷ xs) h = (h x (inl refl), each_from_has P xs (λ y has. h y (inr has)))
+use Rattle.wt_instance.specs.Meeting.{IsUnique, Holds, AtomsHold}
 
 same_test : (b c : Bool) → (b ≡ true → c ≡ true) → (c ≡ true → b ≡ true) → b ≡ c
 same_test true true f g = refl

@@ -1,11 +1,9 @@
 -- When an instance of a pair meets a set of its atoms.
-use Rattle.std.specs.Prelude.{◌≡◌, ◌≢◌, ℕ, Bool, true, false, ◌&&◌, nat_lt, List, map, Some, slice_get, slice_index_or, if◌then◌else◌}
+use Rattle.std.specs.Prelude.{◌≡◌, ℕ, Bool, true, false, ◌&&◌, nat_lt, List, Some, slice_get, if◌then◌else◌}
 use Rattle.std.specs.List.{list_all, list_any}
 use Rattle.wt_bag.specs.Bags.{Each}
 use Rattle.wt_bag.specs.Choices.{EachLater}
-use Rattle.wt_value.specs.declared.value.Value.{Value}
-use Rattle.wt_value.specs.declared.value.Value.TheVariants.{Null}
-use Rattle.wt_value.specs.Values.{Tuple, row_matches}
+use Rattle.wt_value.specs.Values.{Tuple, HasNoNull, pick, row_matches}
 use Rattle.wt_symbol.specs.Sides.{SideTree, input, proj, filtered, inner_join, left_join, in_sub, dedup, PairTree, leaves_of}
 use Rattle.wt_symbol.specs.Lawful.{occurs, all_in}
 use Rattle.wt_symbol.specs.Heads.{anchor}
@@ -16,18 +14,6 @@ use Rattle.wt_constraint.specs.Atoms.{atoms_of_pair}
 use Rattle.wt_constraint.specs.Sets.{HasAtom}
 use Rattle.wt_instance.specs.declared.instance.Instance.{Instance}
 use Rattle.wt_instance.specs.Instances.{width, table, numbers, is_true}
-
--- the value of a leaf's row at a place, NULL past its end
-abbrev pub at_place : Tuple → ℕ → Value
-at_place row n = slice_index_or row n Null
-
--- the values of a leaf's row at some column numbers
-abbrev pub pick : List ℕ → Tuple → Tuple
-pick ns row = map (at_place row) ns
-
--- no value is NULL
-abbrev pub HasNoNull : Tuple → Type 0
-HasNoNull row = Each (λ v. v ≢ Null) row
 
 -- some row matches the values at these numbers
 abbrev pub IsMatched : Tuple → List ℕ → List Tuple → Type 0

@@ -13,7 +13,8 @@ use Rattle.wt_pred.specs.declared.tree.Cmp.TheVariants.{Eq, Ne, Lt, Le, Gt, Ge}
 use Rattle.wt_pred.specs.declared.tree.Operand.{Operand}
 use Rattle.wt_pred.specs.declared.tree.Operand.TheVariants.{Column, Constant}
 use Rattle.wt_pred.specs.Tree.{PredTree, PredTrees, compare, is_null, is_not_null, in_list, all_of, any_of, negated, no_preds, pred_then}
-use Rattle.wt_pred.specs.Meaning.{truth, truths, value_at, value_of, less, comparison, least, greatest}
+use Rattle.wt_value.specs.Values.{value_at}
+use Rattle.wt_pred.specs.Meaning.{truth, truths, value_of, less, comparison, least, greatest}
 use Rattle.wt_pred.specs.Nulls.{is_column, never_true, never_false, nevers_true, nevers_false, every, some_of, RejectsNull}
 use Rattle.wt_pred.proofs.Connectives.{and_not_true_left, and_not_true_right, and_not_false, or_not_true, or_not_false_left, or_not_false_right, not_not_true, not_not_false}
 

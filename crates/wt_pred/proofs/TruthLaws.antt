@@ -14,7 +14,8 @@ use Rattle.wt_value.specs.Truths.{not_of, equality}
 use Rattle.wt_pred.specs.declared.tree.Operand.{Operand}
 use Rattle.wt_pred.specs.declared.tree.Operand.TheVariants.{Column, Constant}
 use Rattle.wt_pred.specs.Tree.{PredTree, PredTrees, compare, is_null, is_not_null, in_list, all_of, any_of, negated, no_preds, pred_then}
-use Rattle.wt_pred.specs.Meaning.{truth, truths, value_at, value_of, comparison, least, greatest}
+use Rattle.wt_value.specs.Values.{value_at}
+use Rattle.wt_pred.specs.Meaning.{truth, truths, value_of, comparison, least, greatest}
 use Rattle.wt_pred.specs.Columns.{operand_columns, occurring, occurring_in, columns, operand_renumbered, renumbered, all_renumbered, place_in}
 use Rattle.wt_pred.specs.Laws.{DependsOn, KeepsTruth}
 use Rattle.wt_pred.proofs.Using.{columns_there}

@@ -1,11 +1,12 @@
 -- What a predicate says of a row, in SQL's three-valued logic.
-use Rattle.std.specs.Prelude.{ℕ, List, [], ◌∷◌, map, get_or, int_lt}
+use Rattle.std.specs.Prelude.{ℕ, List, [], ◌∷◌, map, int_lt}
 use Rattle.std.specs.Ordering.{nat_cmp, is_lt}
 use Rattle.std.specs.Cmp.Lexicographic.{slice_cmp}
 use Rattle.wt_value.specs.declared.value.Truth.{Truth}
 use Rattle.wt_value.specs.declared.value.Truth.TheVariants.{False, Unknown, True}
 use Rattle.wt_value.specs.declared.value.Value.{Value}
 use Rattle.wt_value.specs.declared.value.Value.TheVariants.{Null, Int, Text}
+use Rattle.wt_value.specs.Values.{value_at}
 use Rattle.wt_value.specs.Truths as truths_of
 use Rattle.wt_value.specs.Truths.{truth_of, and_of, or_of, not_of, equality}
 use Rattle.wt_pred.specs.declared.tree.Cmp.{Cmp}
@@ -13,10 +14,6 @@ use Rattle.wt_pred.specs.declared.tree.Cmp.TheVariants.{Eq, Ne, Lt, Le, Gt, Ge}
 use Rattle.wt_pred.specs.declared.tree.Operand.{Operand}
 use Rattle.wt_pred.specs.declared.tree.Operand.TheVariants.{Column, Constant}
 use Rattle.wt_pred.specs.Tree.{PredTree, PredTrees, compare, is_null, is_not_null, in_list, all_of, any_of, negated, no_preds, pred_then}
-
--- the value at a column of the row; past its end NULL
-abbrev pub value_at : List Value → ℕ → Value
-value_at row column = get_or row column Null
 
 -- the value that an operand stands for in the row
 abbrev pub value_of : List Value → Operand → Value

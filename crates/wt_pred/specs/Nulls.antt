@@ -7,7 +7,8 @@ use Rattle.wt_value.specs.declared.value.Truth.TheVariants.{True}
 use Rattle.wt_pred.specs.declared.tree.Operand.{Operand}
 use Rattle.wt_pred.specs.declared.tree.Operand.TheVariants.{Column, Constant}
 use Rattle.wt_pred.specs.Tree.{PredTree, PredTrees, compare, is_null, is_not_null, in_list, all_of, any_of, negated, no_preds, pred_then}
-use Rattle.wt_pred.specs.Meaning.{truth, value_at}
+use Rattle.wt_value.specs.Values.{value_at}
+use Rattle.wt_pred.specs.Meaning.{truth}
 
 -- whether the operand is this column
 abbrev pub is_column : ℕ → Operand → Bool

@@ -5,7 +5,8 @@ ghost use Rattle.wt_value.specs.Truths as spec;
 ghost use Rattle.wt_value.specs.Truths.{equality};
 ghost use Rattle.wt_pred.specs.Tree.{pred_tree, preds_tree};
 ghost use Rattle.wt_pred.specs.Meaning as meaning;
-ghost use Rattle.wt_pred.specs.Meaning.{truths, least, greatest, value_at, value_of};
+ghost use Rattle.wt_pred.specs.Meaning.{truths, least, greatest, value_of};
+ghost use Rattle.wt_value.specs.Values.{value_at};
 
 use crate::logic::{and, compare, equal, not, or, truth};
 use crate::tree::{Cmp, Operand, Pred, Preds};

@@ -1,23 +1,15 @@
 -- When a database satisfies a schema.
-use Rattle.std.specs.Prelude.{◌≡◌, ◌≢◌, ℕ, ◌<◌, true, List, [], ◌∷◌, length, map, slice_index_or}
-use Rattle.std.specs.List.{All, AllPairs, Any, AllByRecursion}
+use Rattle.std.specs.Prelude.{◌≡◌, ◌≢◌, ℕ, ◌<◌, true, List, [], ◌∷◌, length, slice_index_or}
+use Rattle.std.specs.List.{All, AllPairs, Any}
 use Rattle.wt_value.specs.declared.value.Value.{Value}
 use Rattle.wt_value.specs.declared.value.Value.TheVariants as values
-use Rattle.wt_value.specs.Values.{Tuple, Matches}
+use Rattle.wt_value.specs.Values.{Tuple, Matches, HasNoNull, pick}
 use Rattle.wt_schema.specs.declared.schema.ColKind.{ColKind}
 use Rattle.wt_schema.specs.declared.schema.ColKind.TheVariants as kinds
 use Rattle.wt_schema.specs.declared.schema.Column.{Column}
 use Rattle.wt_schema.specs.declared.schema.Key.{Key}
 use Rattle.wt_schema.specs.declared.schema.Reference.{Reference}
 use Rattle.wt_schema.specs.declared.schema.Table.{Table}
-
--- a value of a row at a place, NULL past its end
-abbrev pub value_at : Tuple → ℕ → Value
-value_at row c = slice_index_or row c values.Null
-
--- the values of a row at these places
-abbrev pub pick : List ℕ → Tuple → Tuple
-pick columns row = map (value_at row) columns
 
 -- a value is NULL or of the kind
 abbrev pub IsOf : ColKind → Value → Type 0
@@ -34,9 +26,6 @@ abbrev pub RowFits : List Column → Tuple → Type 0
 RowFits [] [] = Unit {0}
 RowFits (column ∷ columns) (v ∷ row) = ValueFits column v × RowFits columns row
 RowFits _ _ = ⊥
-
-abbrev pub HasNoNull : Tuple → Type 0
-HasNoNull row = AllByRecursion (λ v. v ≢ values.Null) row
 
 -- two rows do not match at these columns; rows with a NULL there match nothing
 abbrev pub Differ : List ℕ → Tuple → Tuple → Type 0

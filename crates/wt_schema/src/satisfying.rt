@@ -1,12 +1,11 @@
-ghost use Rattle.std.specs.Prelude.{◌≡◌, ◌≢◌, ◌↔◌, ◌<◌, ◌≤◌, List, IsTrue, true, length, slice_index_or};
+ghost use Rattle.std.specs.Prelude.{◌≡◌, ◌↔◌, ◌<◌, ◌≤◌, List, IsTrue, true, length, slice_index_or};
 ghost use Rattle.std.specs.List.{All, AllPairs, Any};
-ghost use Rattle.wt_value.specs.declared.value.Value.TheVariants.{Null};
-ghost use Rattle.wt_value.specs.Values.{Matches};
+ghost use Rattle.wt_value.specs.Values.{Matches, HasNoNull, pick};
 ghost use Rattle.wt_schema.specs.Satisfying as spec;
 
 use crate::database::Database;
 use crate::schema::{ColKind, Column, Key, Reference, Schema, Table};
-use wt_value::{Row, Rows, Value};
+use wt_value::{Row, Rows, Value, has_no_null_at, matches_at};
 
 impl Schema {
     /// Whether the database has a list of rows for each table, of the columns' widths and kinds, with no NULL where NOT
@@ -117,9 +116,10 @@ fn key_holds(rows: &[Row], key: &Key) -> bool
 }
 
 fn no_null_among(rows: &[Row], columns: &[u32]) -> bool
-    ensures { IsTrue result ↔ All (λ row. spec.HasNoNull (spec.pick columns.now row)) rows.now }
+    ensures { IsTrue result ↔ All (λ row. HasNoNull (pick columns.now row)) rows.now }
 {
-    rows.iter().all(|row| has_no_null(row.as_slice(), columns))
+    rows.iter()
+        .all(|row| has_no_null_at(row.as_slice(), columns))
 }
 
 fn differ(rows: &[Row], columns: &[u32]) -> bool
@@ -139,7 +139,9 @@ fn differ(rows: &[Row], columns: &[u32]) -> bool
 fn differs_from_all(row: &Row, others: &[Row], columns: &[u32]) -> bool
     ensures { IsTrue result ↔ All (spec.Differ columns.now row.now) others.now }
 {
-    others.iter().all(|other| !matches_at(row.as_slice(), columns, other.as_slice(), columns))
+    others
+        .iter()
+        .all(|other| !matches_at(row, columns, other, columns))
 }
 
 fn reference_holds(rows: &[Row], targets: &[Row], reference: &Reference) -> bool
@@ -151,61 +153,16 @@ fn reference_holds(rows: &[Row], targets: &[Row], reference: &Reference) -> bool
 fn refers(row: &Row, targets: &[Row], reference: &Reference) -> bool
     ensures { IsTrue result ↔ spec.Refers reference.now targets.now row.now }
 {
-    !has_no_null(row.as_slice(), reference.columns.as_slice())
+    !has_no_null_at(row.as_slice(), reference.columns.as_slice())
         || is_matched(row, targets, reference)
 }
 
 fn is_matched(row: &Row, targets: &[Row], reference: &Reference) -> bool
-    ensures { IsTrue result ↔ Any (λ target. Matches (spec.pick reference.now.columns row.now) (spec.pick reference.now.target target)) targets.now }
+    ensures { IsTrue result ↔ Any (λ target. Matches (pick reference.now.columns row.now) (pick reference.now.target target)) targets.now }
 {
     let columns = reference.columns.as_slice();
     let target_columns = reference.target.as_slice();
-    targets.iter().any(|target| matches_at(
-        row.as_slice(),
-        columns,
-        target.as_slice(),
-        target_columns,
-    ))
-}
-
-fn has_no_null(row: &[Value], mut columns: &[u32]) -> bool
-    ensures { IsTrue result ↔ spec.HasNoNull (spec.pick columns.entry.now row.now) }
-{
-    'columns: while let [column, others @ ..] = columns {
-        if is_null_at(row, *column) {
-            return false;
-        }
-        columns = others;
-    }
-    true
-}
-
-fn is_null_at(row: &[Value], column: u32) -> bool
-    ensures { IsTrue result ↔ (spec.value_at row.now column ≡ Null) }
-{
-    let place = column as usize;
-    place >= row.len() || row[place].is_null()
-}
-
-// Whether two rows match, the first at some columns, the second at others.
-fn matches_at(a: &[Value], mut columns: &[u32], b: &[Value], mut others: &[u32]) -> bool
-    ensures { IsTrue result ↔ Matches (spec.pick columns.entry.now a.now) (spec.pick others.entry.now b.now) }
-{
-    'columns: while let ([column, more_columns @ ..], [other, more_others @ ..]) = (
-        columns, others,
-    ) {
-        if !value_matches_at(a, *column, b, *other) {
-            return false;
-        }
-        columns = more_columns;
-        others = more_others;
-    }
-    columns.is_empty() && others.is_empty()
-}
-
-fn value_matches_at(a: &[Value], column: u32, b: &[Value], other: u32) -> bool
-    ensures { IsTrue result ↔ ((spec.value_at a.now column ≡ spec.value_at b.now other) × (spec.value_at a.now column ≢ Null)) }
-{
-    let (i, j) = (column as usize, other as usize);
-    i < a.len() && j < b.len() && !a[i].is_null() && a[i] == b[j]
+    targets
+        .iter()
+        .any(|target| matches_at(row, columns, target, target_columns))
 }

@@ -1,14 +1,14 @@
 -- The tests of values and rows decide what they test.
 use Rattle.std.proofs.Common.{◌≡◌, ◌≢◌, ◌↔◌, ℕ, zero, suc, ◌<◌, length, get_or, IsTrue, not, refl, sym, ap, ◌∙◌, [], ◌∷◌, Bool, true, false, arith}
 use Rattle.std.specs.Bool.{Decides}
-use Rattle.std.specs.List.{AllByRecursion, Any}
+use Rattle.std.specs.List.{Any}
 use Rattle.std.proofs.lemmas.Bool.{false≢true}
 use Rattle.std.proofs.lemmas.Bool.Decides.{Decides-int_eq}
 use Rattle.std.proofs.lemmas.Slice.Eq.{bytes_eq-Decides, slice_eq-Decides}
 use Rattle.wt_bag.specs.Bags.{DecidesEquality, PassesEqualOnly}
 use Rattle.wt_value.specs.declared.value.Value.{Value}
 use Rattle.wt_value.specs.declared.value.Value.TheVariants.{Null, Int, Text}
-use Rattle.wt_value.specs.Values.{Tuple, Matches, value_same, value_matches, row_same, row_matches}
+use Rattle.wt_value.specs.Values.{Tuple, Matches, HasNoNull, value_same, value_matches, row_same, row_matches}
 
 pub value_same-Decides : (a b : Value) → Decides (value_same a b) (a ≡ b)
 value_same-Decides Null Null = (λ _. refl, λ _. refl)
@@ -61,11 +61,11 @@ test_is false false says decides = refl
 test_is true false says decides = let bad : false ≡ true = decides.1 (says.0 refl) in cc
 test_is false true says decides = let bad : false ≡ true = says.1 (decides.0 refl) in cc
 
-no_null : (row : Tuple) → (Any (λ v. v ≡ Null) row → ⊥) → AllByRecursion (λ v. v ≢ Null) row
+no_null : (row : Tuple) → (Any (λ v. v ≡ Null) row → ⊥) → HasNoNull row
 no_null [] none = tt
 no_null (v ∷ vs) none = (λ e. none (0, v, omega arith, refl, e), no_null vs (λ some. none (suc some.0, some.1, omega (arith, some.2), some.3, some.4)))
 
-some_null : (row : Tuple) (k : ℕ) (w : Value) → AllByRecursion (λ v. v ≢ Null) row → k < length row → get_or row k w ≡ w → w ≡ Null → ⊥
+some_null : (row : Tuple) (k : ℕ) (w : Value) → HasNoNull row → k < length row → get_or row k w ≡ w → w ≡ Null → ⊥
 some_null [] k w each within at is = let bad : ⊥ = omega arith in bad
 some_null (v ∷ vs) zero w each within at is = each.0 (at ∙ is)
 some_null (v ∷ vs) (suc k) w each within at is = some_null vs k w each.1 (omega arith) at is

@@ -1,10 +1,9 @@
 -- Values and rows: when two are the same, and when they match.
-use Rattle.std.specs.Prelude.{◌≡◌, ◌≢◌, ℕ, List, Bool, true, false}
-use Rattle.std.specs.List.{AllByRecursion}
+use Rattle.std.specs.Prelude.{◌≡◌, ◌≢◌, ℕ, List, map, slice_index_or, Bool, true, false}
 use Rattle.std.specs.Ordering.{int_eq}
 use Rattle.std.specs.Str.{bytes_eq}
 use Rattle.std.specs.Cmp.Lexicographic.{pointwise}
-use Rattle.wt_bag.specs.Bags.{OneBag, count_of, distinct}
+use Rattle.wt_bag.specs.Bags.{OneBag, Each, count_of, distinct}
 use Rattle.wt_value.specs.declared.value.Value.{Value}
 use Rattle.wt_value.specs.declared.value.Value.TheVariants.{Null, Int, Text}
 
@@ -12,9 +11,21 @@ use Rattle.wt_value.specs.declared.value.Value.TheVariants.{Null, Int, Text}
 abbrev pub Tuple : Type 0
 Tuple = List Value
 
+-- the value of a row at a place, NULL past its end
+abbrev pub value_at : Tuple → ℕ → Value
+value_at row place = slice_index_or row place Null
+
+-- the values of a row at these places
+abbrev pub pick : List ℕ → Tuple → Tuple
+pick places row = map (value_at row) places
+
+-- no value is NULL
+abbrev pub HasNoNull : Tuple → Type 0
+HasNoNull row = Each (λ v. v ≢ Null) row
+
 -- the rows have the same length, no NULL, and equal values place by place
 abbrev pub Matches : Tuple → Tuple → Type 0
-Matches a b = (a ≡ b) × AllByRecursion (λ v. v ≢ Null) a
+Matches a b = (a ≡ b) × HasNoNull a
 
 -- whether two values are one, NULL being the same as NULL
 abbrev pub value_same : Value → Value → Bool

@@ -1,7 +1,6 @@
 use Rattle.std.proofs.Common.{◌↔◌, length, ◌≡◌, false}
 use Rattle.wt_bag.specs.Bags.{Each}
-use Rattle.wt_value.specs.Values.{row_matches}
-use Rattle.wt_instance.specs.Meeting.{pick}
+use Rattle.wt_value.specs.Values.{pick, row_matches}
 use Rattle.wt_instance.proofs.picked.matches_none.Given as goal
 
 abbrev pub invariant-others : goal.invariant-others

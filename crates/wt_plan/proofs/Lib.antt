@@ -1,0 +1,4 @@
+pub mod Together
+pub mod JoinTotals
+pub mod Upto
+pub mod Widths

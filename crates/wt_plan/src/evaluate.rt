@@ -12,17 +12,19 @@ use wt_value::{Row, Rows, Value, WantOfMemory, distinct};
 
 /// Adds so many NULLs to the end of a row.
 fn add_nulls(row: &mut Row, count: usize) -> Result<(), WantOfMemory>
-    ensures { OnOk result (row.new ≡ row.old ++ spec.nulls count) }
+    ensures { OnOk result (row.new ≡ row.old ++ spec.null_row count) }
 {
-    for _ in 0..count {
+    let mut done = 0;
+    'nulls: while done < count {
         row.push(Value::Null)?;
+        done += 1;
     }
     Ok(())
 }
 
 /// Adds a NULL for each column of the plan to the end of a row.
 fn push_nulls(plan: &Plan, row: &mut Row) -> Result<(), WantOfMemory>
-    ensures { OnOk result (row.new ≡ row.old ++ spec.nulls (width (plan_tree plan.now))) }
+    ensures { OnOk result (row.new ≡ row.old ++ spec.null_row (width (plan_tree plan.now))) }
 {
     match plan {
         Plan::Table(_, width) => add_nulls(row, *width as usize),
@@ -39,7 +41,7 @@ fn push_nulls(plan: &Plan, row: &mut Row) -> Result<(), WantOfMemory>
 
 /// A NULL for each column of the plan.
 fn null_row(alloc: Global, plan: &Plan) -> Result<Row, WantOfMemory>
-    ensures { IfOk result (λ row. row ≡ spec.nulls (width (plan_tree plan.now))) }
+    ensures { IfOk result (λ row. row ≡ spec.null_row (width (plan_tree plan.now))) }
 {
     let mut row = Row::new(alloc);
     push_nulls(plan, &mut row)?;
@@ -59,12 +61,12 @@ impl Plan {
             Plan::Filter(pred, cols, plan) => keep_true(alloc, pred, cols, plan.bag(alloc, base)?),
             Plan::InnerJoin(a, b, left, right) => {
                 let lefts = left.bag(alloc, base)?;
-                inner_join(alloc, (a, b), &lefts, &right.bag(alloc, base)?)
+                inner_join(alloc, a, b, &lefts, &right.bag(alloc, base)?)
             }
             Plan::LeftJoin(a, b, left, right) => {
                 let lefts = left.bag(alloc, base)?;
                 let rights = right.bag(alloc, base)?;
-                left_join(alloc, (a, b), &lefts, &rights, &null_row(alloc, right)?)
+                left_join(alloc, a, b, &lefts, &rights, &null_row(alloc, right)?)
             }
             Plan::InSub(cols, left, right) => {
                 let lefts = left.bag(alloc, base)?;

@@ -127,15 +127,16 @@ fn together(alloc: Global, left: &Row, right: &Row) -> Result<Row, WantOfMemory>
 /// A left row with each right row that it matches.
 fn joined(
     alloc: Global,
-    cols: (&Cols, &Cols),
+    a: &Cols,
+    b: &Cols,
     left: &Row,
     rights: &Rows,
 ) -> Result<Rows, WantOfMemory>
-    ensures { IfOk result (λ rows. rows ≡ spec.joined cols.0.now cols.1.now left.now rights.now) }
+    ensures { IfOk result (λ rows. rows ≡ spec.joined a.now b.now left.now rights.now) }
 {
     let mut rows = Rows::new(alloc);
     for right in rights.as_slice() {
-        if matches_at(left, cols.0.as_slice(), right, cols.1.as_slice()) {
+        if matches_at(left, a.as_slice(), right, b.as_slice()) {
             rows.push(together(alloc, left, right)?)?;
         }
     }
@@ -143,8 +144,8 @@ fn joined(
 }
 
 /// The joined rows of a left row; where there are none, the row with these values.
-fn or_padded(alloc: Global, left: &Row, nulls: &Row, mut rows: Rows) -> Result<Rows, WantOfMemory>
-    ensures { IfOk result (λ padded. padded ≡ spec.or_padded (left.now ++ nulls.now) rows) }
+fn or_nulls(alloc: Global, left: &Row, nulls: &Row, mut rows: Rows) -> Result<Rows, WantOfMemory>
+    ensures { IfOk result (λ padded. padded ≡ spec.or_nulls (left.now ++ nulls.now) rows) }
 {
     if rows.is_empty() {
         rows.push(together(alloc, left, nulls)?)?;
@@ -165,15 +166,16 @@ fn push_rows(rows: &mut Rows, more: Rows) -> Result<(), WantOfMemory>
 /// Each left row with each right row that it matches.
 pub(crate) fn inner_join(
     alloc: Global,
-    cols: (&Cols, &Cols),
+    a: &Cols,
+    b: &Cols,
     lefts: &Rows,
     rights: &Rows,
 ) -> Result<Rows, WantOfMemory>
-    ensures { IfOk result (λ rows. rows ≡ flat_map (λ left. spec.joined cols.0.now cols.1.now left rights.now) lefts.now) }
+    ensures { IfOk result (λ rows. rows ≡ flat_map (λ left. spec.joined a.now b.now left rights.now) lefts.now) }
 {
     let mut rows = Rows::new(alloc);
     for left in lefts.as_slice() {
-        push_rows(&mut rows, joined(alloc, cols, left, rights)?)?;
+        push_rows(&mut rows, joined(alloc, a, b, left, rights)?)?;
     }
     Ok(rows)
 }
@@ -181,17 +183,18 @@ pub(crate) fn inner_join(
 /// The same, and a left row that matches none with these values behind it.
 pub(crate) fn left_join(
     alloc: Global,
-    cols: (&Cols, &Cols),
+    a: &Cols,
+    b: &Cols,
     lefts: &Rows,
     rights: &Rows,
     nulls: &Row,
 ) -> Result<Rows, WantOfMemory>
-    ensures { IfOk result (λ rows. rows ≡ flat_map (λ left. spec.or_padded (left ++ nulls.now) (spec.joined cols.0.now cols.1.now left rights.now)) lefts.now) }
+    ensures { IfOk result (λ rows. rows ≡ flat_map (λ left. spec.or_nulls (left ++ nulls.now) (spec.joined a.now b.now left rights.now)) lefts.now) }
 {
     let mut rows = Rows::new(alloc);
     for left in lefts.as_slice() {
-        let matched = joined(alloc, cols, left, rights)?;
-        push_rows(&mut rows, or_padded(alloc, left, nulls, matched)?)?;
+        let matched = joined(alloc, a, b, left, rights)?;
+        push_rows(&mut rows, or_nulls(alloc, left, nulls, matched)?)?;
     }
     Ok(rows)
 }

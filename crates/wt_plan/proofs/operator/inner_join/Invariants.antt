@@ -4,4 +4,4 @@ use Rattle.wt_plan.specs.Rows.{joined}
 use Rattle.wt_plan.proofs.operator.inner_join.Given as goal
 
 abbrev pub invariant-loop-left : goal.invariant-loop-left
-invariant-loop-left l = l.rows ≡ flat_map (λ left. joined l.cols.0 l.cols.1 left l.rights) (take l.left-index l.left-items)
+invariant-loop-left l = l.rows ≡ flat_map (λ left. joined l.a l.b left l.rights) (take l.left-index l.left-items)

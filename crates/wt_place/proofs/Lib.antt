@@ -1,0 +1,2 @@
+pub mod PlaceSums
+pub mod PlaceLaw

@@ -8,6 +8,9 @@ use Rattle.wt_query_rows.specs.declared.scope.ScopeColumn.{ScopeColumn}
 use Rattle.wt_query_rows.specs.Scopes.{in_scope, scope_of, output_names, columns_named, column_names}
 use Rattle.wt_query_rows.specs.Rows.{Named, named, value_of, is_true, query_rows, from_rows, passes, holds, all_hold, table_rows}
 use Rattle.wt_plan.specs.Rows.{plan_rows}
+use Rattle.wt_plan.specs.Rows as plans
+use Rattle.wt_value.specs.declared.value.Truth.{Truth}
+use Rattle.wt_value.specs.declared.value.Truth.TheVariants as truths
 use Rattle.wt_query_plan.specs.Building.{free_of, stacked, keeps, place_of, pred_of, table_number, conjuncts, all_conjuncts, kept_by, planned, from_plan, places_of}
 use Rattle.wt_query_plan.specs.Standing.{RowsFit, Stands, FilterStands, FromStands, CondStands, AllStand}
 use Rattle.wt_query_plan.proofs.Lookup.{truth_named, values_named}
@@ -24,6 +27,12 @@ use Rattle.wt_pred.specs.Meaning.{truth}
 use Rattle.wt_schema.specs.declared.schema.Table.{Table}
 use Rattle.wt_schema.specs.Satisfying.{rows_of}
 use Rattle.wt_plan.proofs.Widths.{Wide}
+
+-- True is the same to a query and to a plan
+as_plans : (t : Truth) → is_true t ≡ plans.is_true t
+as_plans truths.False = refl
+as_plans truths.Unknown = refl
+as_plans truths.True = refl
 
 and_nothing : (b : Bool) → b ≡ (b && true)
 and_nothing true = refl
@@ -49,7 +58,7 @@ all_pairs L R = λ i. flat_map (λ x. all_kept (map (λ y. x ++ y) R) i) L
 
 module _ (S : List Table) (base : List (List Tuple)) (fit : RowsFit S base) where
   plain : (scope : List ScopeColumn) (c : CondTree) (z : Tuple) → length z ≡ length scope → is_true (Rattle.wt_query_rows.specs.Rows.truth_at (named scope z) c) ≡ all_at base (keeps (pred_of scope c) ∷ []) z
-  plain scope c z e = ap is_true (truth_named scope z e c) ∙ and_nothing (is_true (truth (pred_of scope c) z))
+  plain scope c z e = ap is_true (truth_named scope z e c) ∙ as_plans (truth (pred_of scope c) z) ∙ and_nothing (plans.is_true (truth (pred_of scope c) z))
 
   mutual
     pub query_answers : (q : QueryTree) → Stands S q → Answers base (query_rows S base q) (length (output_names S q)) (planned S q)

@@ -22,12 +22,8 @@ use Rattle.wt_query_rows.specs.Scopes.{fits, is_of, columns_named, scope_of}
 use Rattle.wt_query_rows.specs.Rows.{sign_of}
 use Rattle.wt_plan.specs.Tree.{PlanTree}
 use Rattle.wt_plan.specs.Rows.{plan_rows}
+use Rattle.wt_plan.specs.Regular.{upto}
 use Rattle.wt_plan.specs.Tree as plans
-
--- the numbers below n
-abbrev pub upto : ℕ → List ℕ
-upto zero = []
-upto (suc n) = 0 ∷ map suc (upto n)
 
 -- the number of the table of a name
 abbrev pub table_number : List Table → List ℕ → ℕ

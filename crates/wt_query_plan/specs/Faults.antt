@@ -8,6 +8,7 @@ use Rattle.wt_value.specs.declared.value.Value.TheVariants as values
 use Rattle.wt_pred.specs.declared.tree.Operand.{Operand}
 use Rattle.wt_pred.specs.declared.tree.Operand.TheVariants as operands
 use Rattle.wt_pred.specs.Columns.{occurring}
+use Rattle.wt_plan.specs.Regular.{kind_at, kinds_at, value_kind, operand_kind}
 use Rattle.wt_schema.specs.declared.schema.Table.{Table}
 use Rattle.wt_schema.specs.declared.schema.Column as schema_columns
 use Rattle.wt_schema.specs.declared.schema.ColKind.{ColKind}
@@ -52,9 +53,6 @@ columns_fault outer scope [] = None
 columns_fault outer scope (c ∷ cs) = first_of (column_fault outer scope c) (columns_fault outer scope cs)
 
 -- The kinds of the columns of a FROM clause, and of a query's output, in the order of the text.
-abbrev pub kinds_at : List ColKind → List ℕ → List ColKind
-kinds_at ks places = map (λ k. get_or ks k kinds.Int) places
-
 abbrev pub item_kinds : List ScopeColumn → List ColKind → Item → List ColKind
 item_kinds scope ks (Star at) = ks
 item_kinds scope ks (AllOf alias at) = kinds_at ks (places_where (is_of alias) scope)
@@ -82,19 +80,8 @@ kinds_same [] [] = true
 kinds_same (k ∷ ks) (m ∷ ms) = kind_same k m && kinds_same ks ms
 kinds_same _ _ = false
 
-abbrev pub value_kind : Value → ColKind
-value_kind (values.Text t) = kinds.Text
-value_kind _ = kinds.Int
-
-abbrev pub kind_at : List ColKind → ℕ → ColKind
-kind_at ks k = get_or ks k kinds.Int
-
 abbrev pub column_kind : List ScopeColumn → List ColKind → ColumnName → ColKind
 column_kind scope ks c = kind_at ks (place_of scope c)
-
-abbrev pub operand_kind : List ColKind → Operand → ColKind
-operand_kind ks (operands.Column k) = kind_at ks k
-operand_kind ks (operands.Constant v) = value_kind v
 
 abbrev pub scalar_fault : List ScopeColumn → List ScopeColumn → Scalar → Fault
 scalar_fault outer scope (scalars.Column c) = column_fault outer scope c

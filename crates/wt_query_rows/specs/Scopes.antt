@@ -1,4 +1,4 @@
--- The columns that a FROM clause has in sight, and the names of a query's output.
+-- The columns that a FROM clause has in scope, and the names of a query's output.
 use Rattle.std.specs.Prelude.{ℕ, Bool, true, ◌&&◌, List, [], ◌∷◌, ◌++◌, map, filter, flat_map, if◌then◌else◌, Option, Some, None}
 use Rattle.std.specs.Option.{unwrap_or}
 use Rattle.std.specs.Str.{bytes_eq}
@@ -11,8 +11,8 @@ use Rattle.wt_query_rows.specs.declared.scope.ScopeColumn.{ScopeColumn}
 use Rattle.wt_query_rows.specs.Tree.{QueryTree, FromTree, select, table, derived, inner_join, left_join, right_join, comma}
 
 -- a column in scope: the alias of its FROM item, and its name
-abbrev pub seen : List ℕ → List ℕ → ScopeColumn
-seen a n = record { alias = a; name = n }
+abbrev pub in_scope : List ℕ → List ℕ → ScopeColumn
+in_scope a n = record { alias = a; name = n }
 
 -- the columns of the table of a name, none where the schema has no such table
 abbrev pub columns_named : List Table → List ℕ → List columns.Column

@@ -1,2 +1,3 @@
 pub mod PlaceSums
 pub mod PlaceLaw
+pub mod Measured

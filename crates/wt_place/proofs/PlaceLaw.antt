@@ -11,7 +11,8 @@ use Rattle.wt_schema.specs.Satisfying.{rows_of}
 use Rattle.wt_plan.specs.Tree.{PlanTree, table, proj, filtered, inner_join, left_join, in_sub, dedup}
 use Rattle.wt_plan.specs.Rows.{plan_rows, null_row, joined, or_nulls}
 use Rattle.wt_plan.specs.Measures.{width}
-use Rattle.wt_place.specs.Placing.{Condition, test, member, over, moved, stand, in_left, in_right, in_both, settle, conditions, bare, placed, Fits}
+use Rattle.wt_place.specs.Placing.{Condition, test, member, over, moved, stand, in_left, in_right, in_both, settle, conditions, bare, placed}
+use Rattle.wt_place.specs.Keeping.{Fits}
 use Rattle.wt_plan.proofs.Widths.{Wide, TablesFit, wide}
 use Rattle.wt_plan.proofs.JoinTotals.{lone}
 use Rattle.wt_place.proofs.PlaceSums.{true_at, all_true, all_true_append, stand_sum, width_stand, meet, partners, kept, inner_sum, left_sum, kept_same, true_low, true_up, split, split_left}

@@ -1,6 +1,8 @@
 //! Placement: each condition of a plan goes down to the lowest operand that has all its columns.
 #![tactic(auto)]
 
+mod condition;
 mod laws;
+mod place;
 
-pub use laws::placing_keeps_rows;
+pub use laws::{placing_keeps_measures, placing_keeps_rows};

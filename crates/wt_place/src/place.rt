@@ -1,0 +1,71 @@
+//! Placing a plan: the conditions of a zone are taken off, and put where they belong.
+ghost use Rattle.std.specs.Prelude.{◌≡◌, ◌+◌, ◌^◌, ◌<◌, ◌++◌, map, List, IfOk, OnOk};
+ghost use Rattle.wt_value.specs.Values.{Tuple, IsOneBag};
+ghost use Rattle.wt_plan.specs.Tree.{plan_tree, inner_join, left_join};
+ghost use Rattle.wt_plan.specs.Measures as measures;
+ghost use Rattle.wt_plan.specs.Rows.{plan_rows, TablesWide};
+ghost use Rattle.wt_plan.specs.WellFormed.{WellFormed, PlacesFit, Narrow};
+ghost use Rattle.wt_place.specs.Placing as spec;
+ghost use Rattle.wt_place.specs.Keeping.{IsPlaced};
+ghost use Rattle.wt_place.specs.Views.{condition_trees};
+
+use crate::condition::{Condition, Side, all_lowered, raised_columns, split_by_side, stand};
+use std::alloc::Global;
+use wt_plan::{Plan, WantOfMemory};
+use wt_value::Cols;
+
+fn inner_joined(
+    alloc: Global,
+    a: Cols,
+    b: Cols,
+    left: Plan,
+    right: Plan,
+) -> Result<Plan, WantOfMemory>
+    ensures { IfOk result (λ p. plan_tree p ≡ inner_join a b (plan_tree left) (plan_tree right)) }
+{
+    let (left, right) = (Box::new(alloc, left)?, Box::new(alloc, right)?);
+    Ok(Plan::InnerJoin(a, b, left, right))
+}
+
+fn left_joined(
+    alloc: Global,
+    a: Cols,
+    b: Cols,
+    left: Plan,
+    right: Plan,
+) -> Result<Plan, WantOfMemory>
+    ensures { IfOk result (λ p. plan_tree p ≡ left_join a b (plan_tree left) (plan_tree right)) }
+{
+    let (left, right) = (Box::new(alloc, left)?, Box::new(alloc, right)?);
+    Ok(Plan::LeftJoin(a, b, left, right))
+}
+
+/// The conditions put where they belong, over a zone that has none.
+#[cycle(settle)]
+fn settle(alloc: Global, conditions: Vec<Condition>, plan: Plan) -> Result<Plan, WantOfMemory>
+    requires narrow { Narrow (plan_tree plan) }
+    ensures { IfOk result (λ p. plan_tree p ≡ spec.settle (condition_trees conditions.items) (plan_tree plan)) }
+{
+    match plan {
+        Plan::InnerJoin(a, b, left, right) => {
+            let width = left.width();
+            let below = split_by_side(alloc, Side::Left, width, conditions)?;
+            let left = settle(alloc, below.inside, Box::into_inner(left))?;
+            let beside = split_by_side(alloc, Side::Right, width, below.outside)?;
+            let lowered = all_lowered(alloc, beside.inside, width)?;
+            let right = settle(alloc, lowered, Box::into_inner(right))?;
+            stand(
+                alloc,
+                beside.outside,
+                inner_joined(alloc, a, b, left, right)?,
+            )
+        }
+        Plan::LeftJoin(a, b, left, right) => {
+            let below = split_by_side(alloc, Side::Left, left.width(), conditions)?;
+            let left = settle(alloc, below.inside, Box::into_inner(left))?;
+            let join = left_joined(alloc, a, b, left, Box::into_inner(right))?;
+            stand(alloc, below.outside, join)
+        }
+        other => stand(alloc, conditions, other),
+    }
+}

@@ -1,3 +1,3 @@
-pub mod Firsts
 pub mod Lists
 pub mod Views
+pub mod Conjuncts

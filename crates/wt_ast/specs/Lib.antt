@@ -1,3 +1,5 @@
 pub mod Tree
-pub mod Places
-pub mod Lists
+pub mod Conjuncts
+pub mod Marks
+pub mod Lawful
+pub mod Private

@@ -1,13 +1,15 @@
 -- The tree of a query without where its parts lie in memory: whatever a clause says of a tree, it says of this.
-use Rattle.std.specs.Prelude.{ℕ, Bool, List, [], ◌∷◌, Option, Some, None}
+use Rattle.std.specs.Prelude.{ℕ, Bool, List, [], ◌∷◌, map, Option, Some, None}
 use Rattle.wt_value.specs.declared.value.Value.{Value}
 use Rattle.wt_ast.specs.declared.tree.ColumnName.{ColumnName}
 use Rattle.wt_ast.specs.declared.tree.Item.{Item}
+use Rattle.wt_ast.specs.declared.tree.Item.TheVariants as items
 use Rattle.wt_ast.specs.declared.tree.CmpWord.{CmpWord}
 use Rattle.wt_ast.specs.declared.tree.Scalar.{Scalar}
+use Rattle.wt_ast.specs.declared.tree.Scalar.TheVariants as scalars
 use Rattle.wt_ast.specs.declared.tree.Query.{Query, Query', Held-Query-filter, None', Some'}
 use Rattle.wt_ast.specs.declared.tree.FromPart.{FromPart}
-use Rattle.wt_ast.specs.declared.tree.FromPart.TheVariants.{Table, Derived', Inner', Left'}
+use Rattle.wt_ast.specs.declared.tree.FromPart.TheVariants.{Table, Derived', Inner', Left', Right', Comma'}
 use Rattle.wt_ast.specs.declared.tree.Condition.{Condition}
 use Rattle.wt_ast.specs.declared.tree.CondKind.{CondKind}
 use Rattle.wt_ast.specs.declared.tree.CondKind.TheVariants.{Compare, IsNull, IsNotNull, InList, InQuery', And, Or, Not'}
@@ -29,6 +31,8 @@ mutual
     derived : QueryTree → List ℕ → Option (List (List ℕ)) → ℕ → ℕ → FromTree
     inner_join : FromTree → FromTree → CondTree → ℕ → FromTree
     left_join : FromTree → FromTree → CondTree → ℕ → FromTree
+    right_join : FromTree → FromTree → CondTree → ℕ → FromTree
+    comma : FromTree → FromTree → ℕ → FromTree
 
   pub data CondTree : Type 0 where
     compare : ℕ → CmpWord → Scalar → Scalar → ℕ → CondTree
@@ -58,6 +62,8 @@ abbrev mutual
   from_tree (Derived' p query alias columns at alias_at) = derived (query_tree query) alias columns at alias_at
   from_tree (Inner' p left q right at kind on_at) = inner_join (from_tree left) (from_tree right) (kind_tree at kind) on_at
   from_tree (Left' p left q right at kind on_at) = left_join (from_tree left) (from_tree right) (kind_tree at kind) on_at
+  from_tree (Right' p left q right at kind on_at) = right_join (from_tree left) (from_tree right) (kind_tree at kind) on_at
+  from_tree (Comma' p left q right comma_at) = comma (from_tree left) (from_tree right) comma_at
 
   pub kind_tree : ℕ → CondKind → CondTree
   kind_tree at (Compare cmp a b word_at) = compare at cmp a b word_at
@@ -89,3 +95,62 @@ trees_of (c ∷ cs) = cond_then c (trees_of cs)
 abbrev pub condition_trees : List Condition → CondTrees
 condition_trees [] = no_conds
 condition_trees (c ∷ cs) = cond_then (condition_tree c) (condition_trees cs)
+
+-- the first byte of a condition
+abbrev pub cond_at : CondTree → ℕ
+cond_at (compare at c a b word_at) = at
+cond_at (is_null at column) = at
+cond_at (is_not_null at column) = at
+cond_at (in_list at column values word_at) = at
+cond_at (in_query at columns query word_at) = at
+cond_at (all_of at parts) = at
+cond_at (any_of at parts) = at
+cond_at (negated at c) = at
+
+-- ---- a tree without its places: two trees that this makes equal are the same apart from offsets
+
+abbrev pub column_without_place : ColumnName → ColumnName
+column_without_place c = record { table = c.table; name = c.name; at = 0 }
+
+abbrev pub item_without_place : Item → Item
+item_without_place (items.Star at) = items.Star 0
+item_without_place (items.AllOf alias at) = items.AllOf alias 0
+item_without_place (items.Column column output) = items.Column (column_without_place column) output
+
+abbrev pub scalar_without_place : Scalar → Scalar
+scalar_without_place (scalars.Column column) = scalars.Column (column_without_place column)
+scalar_without_place (scalars.Literal value at) = scalars.Literal value 0
+
+abbrev mutual
+  pub without_places : QueryTree → QueryTree
+  without_places (select distinct items from filter) =
+      select distinct (map item_without_place items) (from_without_places from) (filter_without_places filter)
+
+  pub filter_without_places : FilterTree → FilterTree
+  filter_without_places no_filter = no_filter
+  filter_without_places (filter_by c) = filter_by (cond_without_places c)
+
+  pub from_without_places : FromTree → FromTree
+  from_without_places (table name alias at alias_at) = table name alias 0 0
+  from_without_places (derived query alias columns at alias_at) = derived (without_places query) alias columns 0 0
+  from_without_places (inner_join left right on on_at) =
+      inner_join (from_without_places left) (from_without_places right) (cond_without_places on) 0
+  from_without_places (left_join left right on on_at) =
+      left_join (from_without_places left) (from_without_places right) (cond_without_places on) 0
+  from_without_places (right_join left right on on_at) =
+      right_join (from_without_places left) (from_without_places right) (cond_without_places on) 0
+  from_without_places (comma left right comma_at) = comma (from_without_places left) (from_without_places right) 0
+
+  pub cond_without_places : CondTree → CondTree
+  cond_without_places (compare at c a b word_at) = compare 0 c (scalar_without_place a) (scalar_without_place b) 0
+  cond_without_places (is_null at column) = is_null 0 (column_without_place column)
+  cond_without_places (is_not_null at column) = is_not_null 0 (column_without_place column)
+  cond_without_places (in_list at column values word_at) = in_list 0 (column_without_place column) values 0
+  cond_without_places (in_query at columns query word_at) = in_query 0 (map column_without_place columns) (without_places query) 0
+  cond_without_places (all_of at parts) = all_of 0 (conds_without_places parts)
+  cond_without_places (any_of at parts) = any_of 0 (conds_without_places parts)
+  cond_without_places (negated at c) = negated 0 (cond_without_places c)
+
+  pub conds_without_places : CondTrees → CondTrees
+  conds_without_places no_conds = no_conds
+  conds_without_places (cond_then c rest) = cond_then (cond_without_places c) (conds_without_places rest)

@@ -1,6 +1,7 @@
-ghost use Rattle.std.specs.Prelude.{◌≡◌, ◌^◌, ◌-◌, min};
-ghost use Rattle.wt_ast.specs.Tree.{condition_tree, kind_tree, conditions_tree};
-ghost use Rattle.wt_ast.specs.Places.{conjunct_count, conjunct_sum};
+ghost use Rattle.std.specs.Prelude.{◌≡◌, ◌^◌, ◌-◌, min, length};
+ghost use Rattle.wt_ast.specs.Tree.{condition_tree, conditions_tree};
+ghost use Rattle.wt_ast.specs.Conjuncts as spec;
+ghost use Rattle.wt_ast.specs.Conjuncts.{conjuncts_of, IsNoAnd};
 
 use crate::tree::{CondKind, Condition, Conditions};
 
@@ -9,7 +10,8 @@ impl Condition {
     /// `u32` where it would pass it.
     #[cycle(conjuncts)]
     pub fn conjuncts(&self) -> u32
-        ensures { result ≡ min (2 ^ 32 - 1) (conjunct_count (condition_tree self.now)) }
+        ensures count { result ≡ min (2 ^ 32 - 1) (length (spec.conjuncts (condition_tree self.now))) }
+        ensures whole { IsNoAnd (condition_tree self.now) → result ≡ 1 }
     {
         match &self.kind {
             CondKind::And(parts) => conjuncts_of(parts),
@@ -20,7 +22,7 @@ impl Condition {
 
 #[cycle(conjuncts)]
 fn conjuncts_of(parts: &Conditions) -> u32
-    ensures { result ≡ min (2 ^ 32 - 1) (conjunct_sum (conditions_tree parts.now)) }
+    ensures { result ≡ min (2 ^ 32 - 1) (length (spec.conjuncts_of (conditions_tree parts.now))) }
 {
     let mut count: u32 = 0;
     let mut rest = parts;

@@ -2,11 +2,12 @@
 #![tactic(auto)]
 
 mod condition;
-mod misplaced;
-mod places;
+mod laws;
+mod marks;
 mod tree;
 
-pub use places::Counted;
+pub use laws::what_conjuncts_are;
+pub use marks::{Mark, Marked, Marks};
 pub use tree::{
     CmpWord, ColumnName, ColumnNames, CondKind, Condition, Conditions, FromPart, Item, Items,
     Query, Scalar,

@@ -62,11 +62,11 @@ pub struct Query {
     pub filter: Option<Condition>,
 }
 
-/// What stands behind FROM: a table, a query in parentheses, or two such parts that are joined. Parentheses round a join
-/// leave no trace.
+/// What stands behind FROM: a table, a query in parentheses, two such parts that are joined, or a list with commas, whose
+/// left operand is the list before its last comma. Parentheses round a join leave no trace.
 ///
 /// `at` is the offset of a table's name and of a query's opening parenthesis; `alias_at` that of the alias, or of the
-/// table's name where no alias is written; `on_at` that of ON.
+/// table's name where no alias is written; `on_at` that of ON, and `comma_at` that of the comma.
 #[cycle(tree)]
 pub enum FromPart {
     Table {
@@ -93,6 +93,17 @@ pub enum FromPart {
         right: Box<FromPart>,
         on: Condition,
         on_at: u32,
+    },
+    Right {
+        left: Box<FromPart>,
+        right: Box<FromPart>,
+        on: Condition,
+        on_at: u32,
+    },
+    Comma {
+        left: Box<FromPart>,
+        right: Box<FromPart>,
+        comma_at: u32,
     },
 }
 
@@ -126,7 +137,7 @@ pub enum Conditions {
     More(Box<Condition>, Box<Conditions>),
 }
 
-// A run of AND or OR has thousands of parts, and a FROM clause thousands of joins, each in the left operand of the next:
+// A run of AND or OR has thousands of parts, and a FROM clause thousands of joins or commas, each in the left operand of the next:
 // both are dropped by a loop, which takes no stack for them.
 impl Drop for Conditions {
     #[cycle(tree)]
@@ -169,6 +180,17 @@ impl Drop for FromPart {
                     right: _,
                     on: _,
                     on_at: _,
+                } => self = Box::into_inner(left),
+                FromPart::Right {
+                    left,
+                    right: _,
+                    on: _,
+                    on_at: _,
+                } => self = Box::into_inner(left),
+                FromPart::Comma {
+                    left,
+                    right: _,
+                    comma_at: _,
                 } => self = Box::into_inner(left),
             }
         }

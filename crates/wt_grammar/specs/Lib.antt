@@ -1,5 +1,4 @@
-pub mod Words
-pub mod Lexemes
+pub mod Kinds
 pub mod Refusals
 pub mod Reading
 pub mod Statements

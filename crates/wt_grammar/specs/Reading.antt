@@ -1,6 +1,6 @@
 -- A statement read from left to right. A reading gives a value and how many tokens it took, or the first refusal and its
 -- place. Its only recursion is on the levels of nesting that are left.
-use Rattle.std.specs.Prelude.{ℕ, zero, suc, ◌+◌, ◌-◌, ◌^◌, Bool, true, false, ◌&&◌, ◌||◌, if◌then◌else◌, nat_lt, List, [], ◌∷◌, drop, Option, Some, None, Result, Ok, Err, pos, neg_ℤ}
+use Rattle.std.specs.Prelude.{ℕ, zero, suc, ◌^◌, Bool, true, false, ◌&&◌, ◌||◌, if◌then◌else◌, nat_lt, List, [], ◌∷◌, drop, Option, Some, None, Result, Ok, Err, pos, neg_ℤ}
 use Rattle.wt_value.specs.declared.value.Value.{Value}
 use Rattle.wt_value.specs.declared.value.Value.TheVariants as value
 use Rattle.wt_lex.specs.declared.token.LexFault.{LexFault}
@@ -14,16 +14,16 @@ use Rattle.wt_ast.specs.declared.tree.Scalar.{Scalar}
 use Rattle.wt_ast.specs.declared.tree.Scalar.TheVariants as scalar
 use Rattle.wt_ast.specs.declared.tree.CmpWord.{CmpWord}
 use Rattle.wt_ast.specs.declared.tree.CmpWord.TheVariants as cmp
-use Rattle.wt_ast.specs.Tree.{QueryTree, FilterTree, FromTree, CondTree, CondTrees, select, no_filter, filter_by, table, derived, inner_join, left_join, compare, is_null, is_not_null, in_list, in_query, all_of, any_of, negated, no_conds, cond_then, trees_of}
-use Rattle.wt_grammar.specs.declared.lexeme.Kind.{Kind}
-use Rattle.wt_grammar.specs.declared.lexeme.Kind.TheVariants.{Name, Number, Text, Mark}
-use Rattle.wt_grammar.specs.declared.lexeme.Stage.{Stage}
-use Rattle.wt_grammar.specs.declared.lexeme.Stage.TheVariants as stage
-use Rattle.wt_grammar.specs.declared.lexeme.JoinKind.{JoinKind}
-use Rattle.wt_grammar.specs.declared.lexeme.JoinKind.TheVariants as joining
+use Rattle.wt_ast.specs.Tree.{QueryTree, FilterTree, FromTree, CondTree, CondTrees, select, no_filter, filter_by, table, derived, inner_join, left_join, right_join, comma, compare, is_null, is_not_null, in_list, in_query, all_of, any_of, negated, no_conds, cond_then, trees_of, cond_at}
+use Rattle.wt_reading.specs.declared.lexeme.Kind.{Kind}
+use Rattle.wt_reading.specs.declared.lexeme.Kind.TheVariants.{Name, Number, Text, Mark}
+use Rattle.wt_grammar.specs.declared.join.JoinKind.{JoinKind}
+use Rattle.wt_grammar.specs.declared.join.JoinKind.TheVariants as joining
 use Rattle.wt_grammar.specs.declared.fault.QueryFault.{QueryFault}
 use Rattle.wt_grammar.specs.declared.fault.QueryFault.TheVariants as fault
-use Rattle.wt_grammar.specs.Lexemes.{Tokens, kind, place, is_and, is_or, is_not, is_select, is_distinct, is_all, is_from, is_where, is_between, is_is, is_null_word, is_in, is_as, is_inner, is_outer, is_join, is_on, is_open, is_close, is_comma, is_dot, is_star, is_name, is_end, begins_join}
+use Rattle.wt_reading.specs.Lexemes.{Tokens, kind, place, at, is_open, is_close, is_comma, is_name, is_end}
+use Rattle.wt_reading.specs.Readings.{Reading, plus, followed, expect, within, list, more, repeat}
+use Rattle.wt_grammar.specs.Kinds.{is_and, is_or, is_not, is_select, is_distinct, is_all, is_from, is_where, is_between, is_is, is_null_word, is_in, is_as, is_inner, is_left, is_outer, is_join, is_on, is_dot, is_star, begins_join}
 use Rattle.wt_grammar.specs.Refusals.{no_statement, no_operand, no_item, no_literal, beyond, no_negated, no_end, no_join, no_join_or_end, syntax}
 
 -- why a statement is refused: by its grammar, or for a token
@@ -32,50 +32,9 @@ pub data Refusal : Type 0 where
   odd : LexFault → Refusal
 
 abbrev pub Read : Type 0 → Type 0
-Read A = Result (A × ℕ) (Refusal × ℕ)
-
--- ---- readings put together
-
-abbrev pub plus : {A : Type 0} → ℕ → Read A → Read A
-plus n (Ok x) = Ok (x.0, n + x.1)
-plus n (Err e) = Err e
-
--- a reading of the tokens, and what it is followed by on the tokens behind it
-abbrev pub followed : {A B : Type 0} → Tokens → Read A → (A → Tokens → Read B) → Read B
-followed ts (Ok x) f = plus x.1 (f x.0 (drop x.1 ts))
-followed ts (Err e) f = Err e
-
-abbrev pub taken : {A : Type 0} → Read A → ℕ
-taken (Ok x) = x.1
-taken (Err e) = 0
-
-abbrev pub joined_to : {A : Type 0} → Read A → Read (List A) → Read (List A)
-joined_to (Ok x) (Ok xs) = Ok (x.0 ∷ xs.0, x.1 + xs.1 + 1)
-joined_to (Ok x) (Err e) = Err e
-joined_to (Err e) r = Err e
-
--- More parts, each behind a separator. The number counts the tokens that still belong to the part before.
-unfoldable pub more : {A : Type 0} → (Kind → Bool) → (Tokens → Read A) → ℕ → Tokens → Read (List A)
-more sep part n [] = Ok ([], 0)
-more sep part (suc n) (t ∷ ts) = more sep part n ts
-more sep part zero (t ∷ ts) = if sep t.kind then joined_to (part ts) (more sep part (taken (part ts)) ts) else Ok ([], 0)
-
--- one or more, with commas
-unfoldable pub list : {A : Type 0} → (Tokens → Read A) → Tokens → Read (List A)
-list part ts = followed ts (part ts) (λ x rest. followed rest (more is_comma part 0 rest) (λ xs r. Ok (x ∷ xs, 0)))
+Read A = Reading (Refusal × ℕ) A
 
 -- ---- parts of trees
-
--- where a condition begins
-abbrev pub cond_at : CondTree → ℕ
-cond_at (compare at c a b word) = at
-cond_at (is_null at c) = at
-cond_at (is_not_null at c) = at
-cond_at (in_list at c vs word) = at
-cond_at (in_query at cs q word) = at
-cond_at (all_of at cs) = at
-cond_at (any_of at cs) = at
-cond_at (negated at c) = at
 
 -- a run of one part is that part; a longer one begins where its first part does
 abbrev pub one_or : (ℕ → CondTrees → CondTree) → CondTree → List CondTree → CondTree
@@ -89,6 +48,7 @@ between_of at a low high word = all_of at (cond_then (compare at cmp.Ge a low wo
 abbrev pub join_of : JoinKind → FromTree → FromTree → CondTree → ℕ → FromTree
 join_of joining.Inner = inner_join
 join_of joining.Left = left_join
+join_of joining.Right = right_join
 
 -- the comparison that a symbol stands for
 abbrev pub cmp_of : Kind → Option CmpWord
@@ -122,45 +82,29 @@ no_query_end (select distinct items from (filter_by c)) = no_end
 unfoldable pub run : (Kind → Bool) → (ℕ → CondTrees → CondTree) → (Tokens → Read CondTree) → Tokens → Read CondTree
 run sep whole part ts = followed ts (part ts) (λ x rest. followed rest (more sep part 0 rest) (λ xs r. Ok (one_or whole x xs, 0)))
 
-abbrev pub made : FromTree → Read FromTree → FromTree
-made a (Ok x) = x.0
-made a (Err e) = a
-
-abbrev pub chain : {A B : Type 0} → Read A → Read B → Read B
-chain (Ok x) r = plus x.1 r
-chain (Err e) r = Err e
-
 -- behind SELECT, whether DISTINCT is written
 unfoldable pub quantifier : Tokens → Read Bool
 quantifier ts = if is_distinct (kind ts) then Ok (true, 1) else (if is_all (kind ts) then Ok (false, 1) else Ok (false, 0))
 
 -- ---- the lookahead for tuples: columns with commas, `)`, and IN or NOT IN
 
+-- a column, which is a name or two names with a dot between, whatever stands behind it
+abbrev pub column_front : Tokens → Reading (Unit {0}) (Unit {0})
+column_front ts =
+    if is_name (kind ts) then (if is_dot (kind (drop 1 ts)) then (if is_name (kind (drop 2 ts)) then Ok (tt, 3) else Err tt) else Ok (tt, 1))
+    else Err tt
+
 abbrev pub in_follows : Tokens → Bool
 in_follows ts = is_in (kind ts) || (is_not (kind ts) && is_in (kind (drop 1 ts)))
 
--- the stage behind a token with which columns go on
-abbrev pub next_stage : Stage → Kind → Option Stage
-next_stage stage.BeforeColumn Name = Some stage.BehindName
-next_stage stage.BehindDot Name = Some stage.BehindColumn
-next_stage stage.BehindName (Mark sym.Dot) = Some stage.BehindDot
-next_stage stage.BehindName (Mark sym.Comma) = Some stage.BeforeColumn
-next_stage stage.BehindColumn (Mark sym.Comma) = Some stage.BeforeColumn
-next_stage _ _ = None
-
--- a column may end here
-abbrev pub ends_column : Stage → Bool
-ends_column stage.BehindName = true
-ends_column stage.BehindColumn = true
-ends_column _ = false
-
-abbrev pub is_tuple : Stage → Tokens → Bool
-is_tuple at [] = false
-is_tuple at (t ∷ ts) = elim (next_stage at t.kind) [ Some s ↦ is_tuple s ts | None ↦ ends_column at && is_close t.kind && in_follows ts ]
+-- behind so many tokens `)` stands, and IN or NOT IN behind it
+abbrev pub closes_tuple : {A : Type 0} → Tokens → Reading (Unit {0}) A → Bool
+closes_tuple ts (Ok x) = is_close (kind (drop x.1 ts)) && in_follows (drop 1 (drop x.1 ts))
+closes_tuple ts (Err e) = false
 
 -- the parenthesis at the front opens a tuple
 unfoldable pub opens_tuple : Tokens → Bool
-opens_tuple ts = is_tuple stage.BeforeColumn (drop 1 ts)
+opens_tuple ts = closes_tuple (drop 1 ts) (list column_front (drop 1 ts))
 
 -- the name and the text of the token at the front
 unfoldable pub name_at : List ℕ → Tokens → List ℕ
@@ -184,9 +128,9 @@ module _ (end : ℕ) where
   abbrev pub no : {A : Type 0} → QueryFault → Tokens → Read A
   no f ts = Err (refused f, place end ts)
 
-  -- one token that has to stand here
-  unfoldable pub expect : (Kind → Bool) → (Kind → QueryFault) → Tokens → Read (Unit {0})
-  expect wanted other ts = if wanted (kind ts) then Ok (tt, 1) else no (other (kind ts)) ts
+  -- why the token at the front is refused, which has no place there
+  abbrev pub refusal : (Kind → QueryFault) → Tokens → Refusal × ℕ
+  refusal other ts = (refused (other (kind ts)), place end ts)
 
   -- a value, unless the token behind it is one that its place never has
   abbrev pub ended_by : {A : Type 0} → Option QueryFault → A → Tokens → Read A
@@ -213,15 +157,11 @@ module _ (end : ℕ) where
   listed_negative (Number n) ts = negative n ts
   listed_negative _ ts = no fault.Syntax (drop 1 ts)
 
-  -- a part behind the token at the front, and the parenthesis that closes it
-  abbrev pub within : {A : Type 0} → (Tokens → Read A) → (A → Kind → QueryFault) → Tokens → Read A
-  within part other ts = plus 1 (followed (drop 1 ts) (part (drop 1 ts)) (λ x rest. followed rest (expect is_close (other x) rest) (λ _ r. Ok (x, 0))))
-
   -- behind `column IS`
   unfoldable pub is_part : ℕ → ColumnName → Tokens → Read CondTree
-  is_part at c ts =
-      if is_not (kind ts) then plus 1 (followed (drop 1 ts) (expect is_null_word syntax (drop 1 ts)) (λ _ rest. Ok (is_not_null at c, 0)))
-      else followed ts (expect is_null_word syntax ts) (λ _ rest. Ok (is_null at c, 0))
+  is_part begin c ts =
+      if is_not (kind ts) then plus 1 (followed (drop 1 ts) (expect (at is_null_word) (refusal syntax) (drop 1 ts)) (λ _ rest. Ok (is_not_null begin c, 0)))
+      else followed ts (expect (at is_null_word) (refusal syntax) ts) (λ _ rest. Ok (is_null begin c, 0))
 
   -- what follows a column; a literal is refused there
   abbrev pub of_column : {A : Type 0} → Scalar → (ColumnName → Read A) → Tokens → Read A
@@ -231,14 +171,15 @@ module _ (end : ℕ) where
   -- the words of a join
   unfoldable pub outer_join : JoinKind → Tokens → Read JoinKind
   outer_join k ts =
-      if is_outer (kind ts) then plus 1 (followed (drop 1 ts) (expect is_join syntax (drop 1 ts)) (λ _ rest. Ok (k, 0)))
-      else followed ts (expect is_join syntax ts) (λ _ rest. Ok (k, 0))
+      if is_outer (kind ts) then plus 1 (followed (drop 1 ts) (expect (at is_join) (refusal syntax) (drop 1 ts)) (λ _ rest. Ok (k, 0)))
+      else followed ts (expect (at is_join) (refusal syntax) ts) (λ _ rest. Ok (k, 0))
 
   unfoldable pub join_words : Tokens → Read JoinKind
   join_words ts =
       if is_join (kind ts) then Ok (joining.Inner, 1)
-      else (if is_inner (kind ts) then plus 1 (followed (drop 1 ts) (expect is_join syntax (drop 1 ts)) (λ _ rest. Ok (joining.Inner, 0)))
-      else plus 1 (outer_join joining.Left (drop 1 ts)))
+      else (if is_inner (kind ts) then plus 1 (followed (drop 1 ts) (expect (at is_join) (refusal syntax) (drop 1 ts)) (λ _ rest. Ok (joining.Inner, 0)))
+      else (if is_left (kind ts) then plus 1 (outer_join joining.Left (drop 1 ts))
+      else plus 1 (outer_join joining.Right (drop 1 ts))))
 
   module _ (bytes : List ℕ) where
     -- ---- names, columns, literals, operands, items
@@ -296,9 +237,9 @@ module _ (end : ℕ) where
 
     -- behind BETWEEN
     unfoldable pub between : ℕ → Scalar → ℕ → Tokens → Read CondTree
-    between at a word ts =
-        followed ts (operand ts) (λ low rest. followed rest (expect is_and syntax rest) (λ _ r.
-        followed r (operand r) (λ high q. Ok (between_of at a low high word, 0))))
+    between begin a word ts =
+        followed ts (operand ts) (λ low rest. followed rest (expect (at is_and) (refusal syntax) rest) (λ _ r.
+        followed r (operand r) (λ high q. Ok (between_of begin a low high word, 0))))
 
     -- behind the operand, at a comparison
     abbrev pub compared_by : Option CmpWord → ℕ → Scalar → Tokens → Read CondTree
@@ -320,7 +261,7 @@ module _ (end : ℕ) where
     module _ (nest : Nest) where
       -- a list in parentheses, which are a level too
       unfoldable pub listed : {A : Type 0} → (Tokens → Read A) → Tokens → Read (List A)
-      listed part ts = if nest.room then within (list part) (λ _. syntax) ts else no fault.TooDeep ts
+      listed part ts = if nest.room then within (list part) (λ _. refusal syntax) ts else no fault.TooDeep ts
 
       -- ---- conditions; `at` is where the condition begins
 
@@ -402,19 +343,20 @@ module _ (end : ℕ) where
           else (if is_open (kind ts) then (if is_select (kind (drop 1 ts)) then derived_part ts else nest.froms ts)
           else no fault.Syntax ts)
 
-      unfoldable pub join : FromTree → Tokens → Read FromTree
-      join a ts = followed ts (join_words ts) (λ k rest. followed rest (primary rest) (λ b r.
-          followed r (expect is_on no_join r) (λ _ q. followed q (cond q) (λ c p. Ok (join_of k a b c (place end r), 0)))))
+      -- A join to the right of what was read so far. The test says that parentheses round a join are open.
+      unfoldable pub join : Bool → FromTree → Tokens → Read FromTree
+      join inside a ts = followed ts (join_words ts) (λ k rest. followed rest (primary rest) (λ b r.
+          followed r (expect (at is_on) (refusal (no_join inside)) r) (λ _ q. followed q (cond q) (λ c p. Ok (join_of k a b c (place end r), 0)))))
 
-      -- Joins to the right of what was read so far. The number counts the tokens that still belong to that.
-      unfoldable pub joins : FromTree → ℕ → Tokens → Read FromTree
-      joins a n [] = Ok (a, 0)
-      joins a (suc n) (t ∷ ts) = joins a n ts
-      joins a zero (t ∷ ts) =
-          if begins_join t.kind then chain (join a (t ∷ ts)) (joins (made a (join a (t ∷ ts))) (taken (join a (t ∷ ts)) - 1) ts) else Ok (a, 0)
+      unfoldable pub joined : Bool → Tokens → Read FromTree
+      joined inside ts = followed ts (primary ts) (λ a rest. repeat (at begins_join) (join inside) 0 a rest)
 
-      unfoldable pub joined : Tokens → Read FromTree
-      joined ts = followed ts (primary ts) (λ a rest. joins a 0 rest)
+      -- a comma behind what was read so far, and the part behind it
+      unfoldable pub listed_part : FromTree → Tokens → Read FromTree
+      listed_part a ts = plus 1 (followed (drop 1 ts) (joined false (drop 1 ts)) (λ b rest. Ok (comma a b (place end ts), 0)))
+
+      unfoldable pub from_list : Tokens → Read FromTree
+      from_list ts = followed ts (joined false ts) (λ a rest. repeat (at is_comma) listed_part 0 a rest)
 
       -- ---- queries
 
@@ -423,8 +365,8 @@ module _ (end : ℕ) where
 
       -- behind SELECT
       unfoldable pub body : Tokens → Read QueryTree
-      body ts = followed ts (quantifier ts) (λ d rest. followed rest (list item rest) (λ is r. followed r (expect is_from syntax r) (λ _ q.
-          followed q (joined q) (λ p s. followed s (filter s) (λ f o. Ok (select d is p f, 0))))))
+      body ts = followed ts (quantifier ts) (λ d rest. followed rest (list item rest) (λ is r. followed r (expect (at is_from) (refusal syntax) r) (λ _ q.
+          followed q (from_list q) (λ p s. followed s (filter s) (λ f o. Ok (select d is p f, 0))))))
 
     -- what stands under so many more levels
     unfoldable pub nest : ℕ → Nest
@@ -432,9 +374,9 @@ module _ (end : ℕ) where
     nest (suc levels) = record {
       room = true;
       negs = λ ts. plus 1 (followed (drop 1 ts) (neg (nest levels) (drop 1 ts)) (λ c rest. Ok (negated (place end ts) c, 0)));
-      conds = within (cond (nest levels)) (λ _. syntax);
-      queries = within (λ ts. plus 1 (body (nest levels) (drop 1 ts))) no_query_end;
-      froms = within (joined (nest levels)) (λ _. no_join);
+      conds = within (cond (nest levels)) (λ _. refusal syntax);
+      queries = within (λ ts. plus 1 (body (nest levels) (drop 1 ts))) (λ q. refusal (no_query_end q));
+      froms = within (joined (nest levels) true) (λ _. refusal (no_join true));
     }
 
     -- a whole statement, with 32 levels

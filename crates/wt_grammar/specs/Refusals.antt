@@ -1,9 +1,9 @@
 -- The tables of refusals: which kind a token is refused as, by where it stands. What has no row is Syntax.
-use Rattle.std.specs.Prelude.{Option, Some, None}
+use Rattle.std.specs.Prelude.{Bool, true, false, Option, Some, None}
 use Rattle.wt_lex.specs.declared.token.Sym.TheVariants as sym
-use Rattle.wt_grammar.specs.declared.lexeme.Kind.{Kind}
-use Rattle.wt_grammar.specs.declared.lexeme.Kind.TheVariants.{Key, Number, Text, Mark}
-use Rattle.wt_grammar.specs.declared.lexeme.Word.TheVariants as word
+use Rattle.wt_reading.specs.declared.lexeme.Kind.{Kind}
+use Rattle.wt_reading.specs.declared.lexeme.Kind.TheVariants.{Key, Number, Text, Mark}
+use Rattle.wt_lex.specs.declared.words.Word.TheVariants as word
 use Rattle.wt_grammar.specs.declared.fault.QueryFault.{QueryFault}
 use Rattle.wt_grammar.specs.declared.fault.QueryFault.TheVariants as fault
 
@@ -77,15 +77,14 @@ no_end (Key word.Fetch) = fault.Limit
 no_end (Key word.Window) = fault.Window
 no_end _ = fault.Syntax
 
--- behind a FROM item or the condition of an ON
-abbrev pub join_fault : Kind → Option QueryFault
-join_fault (Mark sym.Comma) = Some fault.CommaJoin
-join_fault (Key word.Right) = Some fault.RightJoin
-join_fault (Key word.Full) = Some fault.FullJoin
-join_fault (Key word.Cross) = Some fault.CrossJoin
-join_fault (Key word.Natural) = Some fault.NaturalJoin
-join_fault (Key word.Using) = Some fault.Using
-join_fault _ = None
+-- behind a FROM item or the condition of an ON; the test says that parentheses round a join are open there
+abbrev pub join_fault : Bool → Kind → Option QueryFault
+join_fault true (Mark sym.Comma) = Some fault.CommaJoin
+join_fault inside (Key word.Full) = Some fault.FullJoin
+join_fault inside (Key word.Cross) = Some fault.CrossJoin
+join_fault inside (Key word.Natural) = Some fault.NaturalJoin
+join_fault inside (Key word.Using) = Some fault.Using
+join_fault inside _ = None
 
 abbrev pub syntax : Kind → QueryFault
 syntax k = fault.Syntax
@@ -95,9 +94,9 @@ fault_or (Some f) other = f
 fault_or None other = other
 
 -- behind a FROM item that still wants its ON, and where parentheses round a join close
-abbrev pub no_join : Kind → QueryFault
-no_join k = fault_or (join_fault k) fault.Syntax
+abbrev pub no_join : Bool → Kind → QueryFault
+no_join inside k = fault_or (join_fault inside k) fault.Syntax
 
 -- where a query without WHERE may end, or its FROM go on
 abbrev pub no_join_or_end : Kind → QueryFault
-no_join_or_end k = fault_or (join_fault k) (no_end k)
+no_join_or_end k = fault_or (join_fault false k) (no_end k)

@@ -7,10 +7,10 @@ use Rattle.wt_lex.specs.declared.token.LexFault.{LexFault}
 use Rattle.wt_lex.specs.declared.token.Sym.TheVariants as sym
 use Rattle.wt_lex.specs.Tokens.{lexed}
 use Rattle.wt_ast.specs.Tree.{QueryTree}
-use Rattle.wt_ast.specs.declared.places.Counted.TheVariants.{FromItems, Conjuncts}
-use Rattle.wt_ast.specs.Places.{places, misplaced, first}
+use Rattle.wt_ast.specs.declared.marks.Marked.TheVariants.{FromItem, Conjunct, HiddenIn}
+use Rattle.wt_ast.specs.Marks.{marks, places}
 use Rattle.wt_grammar.specs.declared.fault.QueryFault.TheVariants as fault
-use Rattle.wt_grammar.specs.Words.{lexeme}
+use Rattle.wt_reading.specs.Lexemes.{lexeme}
 use Rattle.wt_grammar.specs.Reading.{Refusal, refused, odd, Read, statement}
 
 -- The tokens of a statement, and the place of its end: that of its `;`, or the file's length.
@@ -81,7 +81,7 @@ earlier (Some a) (Some b) = Some (min a b)
 
 -- where the 257th FROM item or the 257th conjunct stands, the first of the two
 abbrev pub crowded : QueryTree → Option ℕ
-crowded q = earlier (slice_get (places FromItems q) 256) (slice_get (places Conjuncts q) 256)
+crowded q = earlier (slice_get (places FromItem (marks q)) 256) (slice_get (places Conjunct (marks q)) 256)
 
 abbrev pub counted : Option ℕ → QueryTree → Answer
 counted None q = Ok q
@@ -93,7 +93,7 @@ placed (Some at) q = Err (refused fault.InUnderOr, at)
 
 -- a query that was read, unless a query in it stands below Or or Not, or it has too many parts
 abbrev pub limited : Read QueryTree → Answer
-limited (Ok x) = placed (first (misplaced x.0)) x.0
+limited (Ok x) = placed (slice_get (places HiddenIn (marks x.0)) 0) x.0
 limited (Err e) = Err e
 
 abbrev pub lexical_or : Option (LexFault × ℕ) → Answer → Answer

@@ -37,8 +37,7 @@ pub enum QueryFault {
     CrossJoin,
     NaturalJoin,
     Using,
-    RightJoin,
-    /// A comma between FROM items.
+    /// A comma inside parentheses round a join.
     CommaJoin,
     /// More than 32 open parentheses and pending NOTs.
     TooDeep,

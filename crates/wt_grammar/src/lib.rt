@@ -3,7 +3,7 @@
 #![tactic(auto)]
 
 mod fault;
-mod lexeme;
+mod join;
 
 pub use fault::QueryFault;
-pub use lexeme::{JoinKind, Kind, Lexeme, Stage, Word};
+pub use join::JoinKind;

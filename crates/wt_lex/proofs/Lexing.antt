@@ -8,7 +8,8 @@ use Rattle.std.specs.Prelude.{if◌then◌else◌}
 use Rattle.wt_lex.specs.declared.token.LexFault.{LexFault}
 use Rattle.wt_lex.specs.declared.token.LexFault.TheVariants as fault
 use Rattle.wt_lex.specs.declared.token.Token.{Token}
-use Rattle.wt_lex.specs.Sound.{AllStandIn, InOrder}
+use Rattle.wt_lex.specs.Stored.{AllStandIn}
+use Rattle.wt_lex.specs.Sound.{InOrder}
 use Rattle.wt_lex.proofs.Ordering.{all_in_order}
 use Rattle.wt_lex.proofs.Standing.{all_stand}
 use Rattle.wt_lex.specs.Tokens.{lexed, open_quote, tokens_from}

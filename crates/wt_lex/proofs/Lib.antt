@@ -3,4 +3,5 @@ pub mod Lexing
 pub mod Naming
 pub mod Numbers
 pub mod Ordering
+pub mod Reserving
 pub mod Standing

@@ -11,8 +11,18 @@ use Rattle.std.proofs.lemmas.List.{length-take, length-map}
 use Rattle.wt_lex.specs.declared.token.TokenKind.{TokenKind}
 use Rattle.wt_lex.specs.declared.token.TokenKind.TheVariants as kinds
 use Rattle.wt_lex.specs.declared.token.Token.{Token}
-use Rattle.wt_lex.specs.Names.{undoubled, piece, spelled, inside, folded, name_bytes, name_by, text_bytes, text_by, IsName, IsNamed}
-use Rattle.wt_lex.specs.Sound.{IsBetween, IsAsciiWord, StandsBy, StandsIn}
+use Rattle.wt_lex.specs.Names.{undoubled, piece, spelled, inside, folded, name_bytes, name_by, text_bytes, text_by}
+use Rattle.wt_lex.specs.Stored.{IsBetween, IsAsciiWord, StandsBy, StandsIn}
+
+-- a name is UTF-8 and not empty
+abbrev pub IsName : List ℕ → Type 0
+IsName name = IsUtf8 name × (0 < length name)
+
+-- the kinds of tokens that stand for names
+abbrev pub IsNamed : TokenKind → Type 0
+IsNamed kinds.Word = Unit {0}
+IsNamed kinds.Quoted = Unit {0}
+IsNamed _ = ⊥
 
 -- ---- quotes that are left out
 

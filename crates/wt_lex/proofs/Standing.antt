@@ -19,7 +19,7 @@ use Rattle.wt_lex.specs.declared.token.TokenKind.TheVariants as kinds
 use Rattle.wt_lex.specs.declared.token.Token.{Token}
 use Rattle.wt_lex.specs.Fronts.{front, is_in, is_blank, begins_word, run, number_kind, value, past_most, spoils, digits_of, closing, comment_end, closed_name, closed_text, closed_comment, longest, long_symbol, short_symbol, len_of}
 use Rattle.wt_lex.specs.Tokens.{token, made, is_closed, before, tokens_from}
-use Rattle.wt_lex.specs.Sound.{IsBetween, IsAsciiWord, StandsIn, AllStandIn}
+use Rattle.wt_lex.specs.Stored.{IsBetween, IsAsciiWord, StandsIn, AllStandIn}
 
 -- ---- a quoted token
 

@@ -3,3 +3,4 @@ pub mod Names
 pub mod Sound
 pub mod Stored
 pub mod Tokens
+pub mod Words

@@ -1,25 +1,13 @@
 -- What words, quoted names and texts stand for.
-use Rattle.std.specs.Prelude.{ℕ, ◌<◌, ◌+◌, ◌-◌, Bool, true, false, if◌then◌else◌, ◌==◌, List, [], ◌∷◌, map, length, take, drop, codes}
+use Rattle.std.specs.Prelude.{ℕ, ◌+◌, ◌-◌, Bool, true, false, if◌then◌else◌, ◌==◌, List, [], ◌∷◌, map, take, drop, Option}
 use Rattle.std.specs.Char.{to_ascii_lowercase}
-use Rattle.std.specs.List.{list_any}
-use Rattle.std.specs.Str.{bytes_eq, IsUtf8}
+use Rattle.std.specs.List.{find}
+use Rattle.std.specs.Str.{bytes_eq}
 use Rattle.wt_lex.specs.declared.token.TokenKind.{TokenKind}
 use Rattle.wt_lex.specs.declared.token.TokenKind.TheVariants as kinds
 use Rattle.wt_lex.specs.declared.token.Token.{Token}
-
--- the reserved words, in lower case, which are names only in quotes
-abbrev pub reserved_words : List (List ℕ)
-reserved_words =
-    codes "all" ∷ codes "and" ∷ codes "as" ∷ codes "between" ∷ codes "case" ∷ codes "cast" ∷ codes "check" ∷ codes "constraint"
-    ∷ codes "create" ∷ codes "cross" ∷ codes "default" ∷ codes "distinct" ∷ codes "except" ∷ codes "exists" ∷ codes "false" ∷ codes "fetch"
-    ∷ codes "foreign" ∷ codes "from" ∷ codes "full" ∷ codes "group" ∷ codes "having" ∷ codes "ilike" ∷ codes "in" ∷ codes "inner"
-    ∷ codes "intersect" ∷ codes "is" ∷ codes "join" ∷ codes "left" ∷ codes "like" ∷ codes "limit" ∷ codes "natural" ∷ codes "not"
-    ∷ codes "null" ∷ codes "offset" ∷ codes "on" ∷ codes "or" ∷ codes "order" ∷ codes "outer" ∷ codes "primary" ∷ codes "references"
-    ∷ codes "right" ∷ codes "select" ∷ codes "similar" ∷ codes "table" ∷ codes "true" ∷ codes "union" ∷ codes "unique" ∷ codes "using"
-    ∷ codes "where" ∷ codes "window" ∷ codes "with" ∷ []
-
-abbrev pub is_reserved : List ℕ → Bool
-is_reserved word = list_any (λ other. bytes_eq other word) reserved_words
+use Rattle.wt_lex.specs.declared.words.Word.{Word}
+use Rattle.wt_lex.specs.Words.{spelling, all_words}
 
 -- the bytes from a place to before another
 abbrev pub piece : List ℕ → ℕ → ℕ → List ℕ
@@ -72,12 +60,6 @@ word_by _ spelling word = false
 abbrev pub is_word : List ℕ → Token → List ℕ → Bool
 is_word bytes t word = word_by t.kind (spelled bytes t) word
 
--- a name is UTF-8 and not empty
-abbrev pub IsName : List ℕ → Type 0
-IsName name = IsUtf8 name × (0 < length name)
-
--- the kinds of tokens that stand for names
-abbrev pub IsNamed : TokenKind → Type 0
-IsNamed kinds.Word = Unit {0}
-IsNamed kinds.Quoted = Unit {0}
-IsNamed _ = ⊥
+-- the reserved word that a token is
+abbrev pub keyword : List ℕ → Token → Option Word
+keyword bytes t = find (λ w. is_word bytes t (spelling w)) all_words

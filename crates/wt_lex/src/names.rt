@@ -1,78 +1,9 @@
 ghost use Rattle.std.specs.Prelude.{◌≡◌, ◌-◌, ◌++◌, take, drop, map, false, IfOk};
-ghost use Rattle.std.specs.List.{list_any};
-ghost use Rattle.std.specs.Str.{bytes_eq};
 ghost use Rattle.wt_lex.specs.Names as spec;
 
 use crate::token::{Token, TokenKind};
 use std::alloc::Global;
 use wt_value::{Name, Text, WantOfMemory};
-
-static RESERVED: [&[u8]; 51] = [
-    b"all",
-    b"and",
-    b"as",
-    b"between",
-    b"case",
-    b"cast",
-    b"check",
-    b"constraint",
-    b"create",
-    b"cross",
-    b"default",
-    b"distinct",
-    b"except",
-    b"exists",
-    b"false",
-    b"fetch",
-    b"foreign",
-    b"from",
-    b"full",
-    b"group",
-    b"having",
-    b"ilike",
-    b"in",
-    b"inner",
-    b"intersect",
-    b"is",
-    b"join",
-    b"left",
-    b"like",
-    b"limit",
-    b"natural",
-    b"not",
-    b"null",
-    b"offset",
-    b"on",
-    b"or",
-    b"order",
-    b"outer",
-    b"primary",
-    b"references",
-    b"right",
-    b"select",
-    b"similar",
-    b"table",
-    b"true",
-    b"union",
-    b"unique",
-    b"using",
-    b"where",
-    b"window",
-    b"with",
-];
-
-/// Whether a word, given in lower case, is reserved: such a word is a name only in quotes.
-pub fn is_reserved(word: &[u8]) -> bool
-    ensures { result ≡ spec.is_reserved word.now }
-{
-    is_among(word, &RESERVED)
-}
-
-fn is_among(word: &[u8], words: &[&[u8]]) -> bool
-    ensures { result ≡ list_any (λ other. bytes_eq other.now word.now) words.now }
-{
-    words.iter().any(|other| *other == word)
-}
 
 /// The name that a token stands for: a Word folded to lower case, a Quoted without its quotes, each doubled quote inside
 /// being one. A token of another kind stands for the empty name.

@@ -1,6 +1,6 @@
 ghost use Rattle.std.specs.Prelude.{◌≡◌, ◌==◌, ◌+◌, ◌++◌, ◌∷◌, [], ◌<◌, ◌≤◌, ◌^◌, map, drop, length, slice_get, Some, true, false, List, ℕ, IfOk, IfErr};
 ghost use Rattle.wt_lex.specs.Fronts.{front, len_of};
-ghost use Rattle.wt_lex.specs.Sound.{StandsIn};
+ghost use Rattle.wt_lex.specs.Stored.{StandsIn};
 ghost use Rattle.wt_lex.specs.Stored as stores;
 ghost use Rattle.wt_lex.specs.Tokens as spec;
 

@@ -2,10 +2,12 @@
 #![tactic(auto)]
 
 mod database;
+mod lookup;
 mod satisfying;
 mod schema;
 
 pub use database::{Database, RowsList};
+pub use lookup::column_number;
 pub use schema::{
     ColKind, Column, Columns, Key, Keys, Reference, References, Schema, Table, Tables,
 };

@@ -1,7 +1,7 @@
-use Rattle.std.proofs.Common.{◌≡◌, ◌+◌, ◌-◌, ◌^◌, ◌≤◌, min}
+use Rattle.std.proofs.Common.{◌≡◌, ◌+◌, ◌-◌, ◌^◌, ◌≤◌, min, length}
 use Rattle.wt_ast.specs.declared.tree.Conditions.{size-Conditions}
 use Rattle.wt_ast.specs.Tree.{conditions_tree}
-use Rattle.wt_ast.specs.Places.{conjunct_sum}
+use Rattle.wt_ast.specs.Conjuncts.{conjuncts_of}
 use Rattle.wt_ast.proofs.+conjuncts.Given as goal
 
 abbrev pub decreases-condition::conjuncts_of : goal.decreases-condition::conjuncts_of
@@ -14,5 +14,5 @@ abbrev pub invariant-condition::conjuncts_of-parts : goal.invariant-condition::c
 invariant-condition::conjuncts_of-parts l = record {
   within : l.count ≤ 2 ^ 32 - 1;
   smaller : size-Conditions l.rest ≤ size-Conditions l.fn.parts;
-  count : min (2 ^ 32 - 1) (l.count + conjunct_sum (conditions_tree l.rest)) ≡ min (2 ^ 32 - 1) (conjunct_sum (conditions_tree l.fn.parts));
+  count : min (2 ^ 32 - 1) (l.count + length (conjuncts_of (conditions_tree l.rest))) ≡ min (2 ^ 32 - 1) (length (conjuncts_of (conditions_tree l.fn.parts)));
 }

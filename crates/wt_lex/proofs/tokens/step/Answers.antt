@@ -2,7 +2,7 @@ use Rattle.std.proofs.Common.{◌≡◌, ◌∙◌, ◌++◌, ◌∷◌, [], dro
 use Rattle.std.specs.Prelude.{map}
 use Rattle.wt_lex.specs.declared.front.Front.TheVariants.{Item, Spoiled}
 use Rattle.wt_lex.specs.Fronts.{front, len_of}
-use Rattle.wt_lex.specs.Sound.{StandsIn}
+use Rattle.wt_lex.specs.Stored.{StandsIn}
 use Rattle.wt_lex.specs.Stored.{shown}
 use Rattle.wt_lex.specs.Tokens.{is_closed, made, token}
 use Rattle.wt_lex.proofs.Standing.{item_stands, spoiled_stands}

@@ -1,0 +1,4 @@
+pub mod Complete
+pub mod Inversions
+pub mod Loops
+pub mod Took

@@ -1,3 +1,5 @@
 pub mod PlaceSums
 pub mod PlaceLaw
 pub mod Measured
+pub mod Sorting
+pub mod NarrowKept

@@ -1,5 +1,8 @@
 //! The conditions of a zone, apart from the operands that they stand on.
-ghost use Rattle.std.specs.Prelude.{◌≡◌, ◌+◌, ◌-◌, ◌^◌, min, not, map, filter, IfOk, OnOk, ◌++◌, [], ◌∷◌};
+ghost use Rattle.std.specs.Prelude.{◌≡◌, ◌+◌, ◌-◌, ◌^◌, ◌<◌, min, nat_lt, not, map, filter, IfOk, OnOk, ◌++◌, [], ◌∷◌};
+ghost use Rattle.std.specs.List.{list_all};
+ghost use Rattle.wt_bag.specs.Bags.{Each};
+ghost use Rattle.wt_pred.specs.Tree.{pred_tree};
 ghost use Rattle.wt_plan.specs.Tree.{plan_tree};
 ghost use Rattle.wt_place.specs.Placing as spec;
 ghost use Rattle.wt_place.specs.Views.{condition_tree, condition_trees, all_of};
@@ -70,7 +73,7 @@ fn lowered_columns(alloc: Global, cols: &Cols, width: u32) -> Result<Cols, WantO
 }
 
 /// The columns counted from as many more; one that would pass the greatest number stands there.
-pub(crate) fn raised_columns(alloc: Global, cols: &Cols, shift: u32) -> Result<Cols, WantOfMemory>
+fn raised_at_most(alloc: Global, cols: &Cols, shift: u32) -> Result<Cols, WantOfMemory>
     ensures { IfOk result (λ higher. higher ≡ map (λ k. min (2 ^ 32 - 1) (shift + k)) cols.now) }
 {
     let mut higher = Cols::new(alloc);
@@ -78,6 +81,44 @@ pub(crate) fn raised_columns(alloc: Global, cols: &Cols, shift: u32) -> Result<C
         higher.push(shift.saturating_add(*k))?;
     }
     Ok(higher)
+}
+
+/// The columns counted from as many more.
+fn raised_columns(alloc: Global, cols: &Cols, shift: u32) -> Result<Cols, WantOfMemory>
+    requires { Each (λ k. shift + k < 2 ^ 32) cols.now }
+    ensures { IfOk result (λ higher. higher ≡ map (λ k. shift + k) cols.now) }
+{
+    raised_at_most(alloc, cols, shift)
+}
+
+/// Adds a predicate over columns, counted from as many more.
+pub(crate) fn add_test(
+    alloc: Global,
+    pred: Pred,
+    cols: &Cols,
+    shift: u32,
+    out: &mut Vec<Condition>,
+) -> Result<(), WantOfMemory>
+    requires { Each (λ k. shift + k < 2 ^ 32) cols.now }
+    ensures { OnOk result (condition_trees out.new.items ≡ condition_trees out.old.items ++ spec.moved (λ k. shift + k) (spec.test (pred_tree pred) cols.now) ∷ []) }
+{
+    out.push(Condition::Test(pred, raised_columns(alloc, cols, shift)?))?;
+    Ok(())
+}
+
+/// Adds columns, counted from as many more, that have to match a row of the plan.
+pub(crate) fn add_member(
+    alloc: Global,
+    cols: &Cols,
+    plan: Plan,
+    shift: u32,
+    out: &mut Vec<Condition>,
+) -> Result<(), WantOfMemory>
+    requires { Each (λ k. shift + k < 2 ^ 32) cols.now }
+    ensures { OnOk result (condition_trees out.new.items ≡ condition_trees out.old.items ++ spec.moved (λ k. shift + k) (spec.member cols.now (plan_tree plan)) ∷ []) }
+{
+    out.push(Condition::Member(raised_columns(alloc, cols, shift)?, plan))?;
+    Ok(())
 }
 
 /// The condition over the right operand of a join alone, whose left one has this width.
@@ -118,14 +159,25 @@ fn columns_of(condition: &Condition) -> &Cols
     }
 }
 
+fn are_left(cols: &[u32], width: u32) -> bool
+    ensures { result ≡ list_all (λ k. nat_lt k width) cols.now }
+{
+    cols.iter().all(|k| *k < width)
+}
+
+fn are_right(cols: &[u32], width: u32) -> bool
+    ensures { result ≡ list_all (λ k. not (nat_lt k width)) cols.now }
+{
+    cols.iter().all(|k| *k >= width)
+}
+
 /// Whether all columns of the condition are those of one operand, the left one having this width.
 fn is_in(side: Side, width: u32, condition: &Condition) -> bool
     ensures { result ≡ all_of side width (condition_tree condition.now) }
 {
-    let cols = columns_of(condition).as_slice();
     match side {
-        Side::Left => cols.iter().all(|k| *k < width),
-        Side::Right => cols.iter().all(|k| !(*k < width)),
+        Side::Left => are_left(columns_of(condition).as_slice(), width),
+        Side::Right => are_right(columns_of(condition).as_slice(), width),
     }
 }
 

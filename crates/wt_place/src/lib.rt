@@ -6,3 +6,4 @@ mod laws;
 mod place;
 
 pub use laws::{placing_keeps_measures, placing_keeps_rows};
+pub use place::into_placed;

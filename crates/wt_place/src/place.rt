@@ -9,7 +9,7 @@ ghost use Rattle.wt_place.specs.Placing as spec;
 ghost use Rattle.wt_place.specs.Keeping.{IsPlaced};
 ghost use Rattle.wt_place.specs.Views.{condition_trees};
 
-use crate::condition::{Condition, Side, all_lowered, raised_columns, split_by_side, stand};
+use crate::condition::{Condition, Side, add_member, add_test, all_lowered, split_by_side, stand};
 use std::alloc::Global;
 use wt_plan::{Plan, WantOfMemory};
 use wt_value::Cols;
@@ -68,4 +68,66 @@ fn settle(alloc: Global, conditions: Vec<Condition>, plan: Plan) -> Result<Plan,
         }
         other => stand(alloc, conditions, other),
     }
+}
+
+/// Takes the conditions of a zone off, and adds them, counted from as many columns more, to others. What is left has its
+/// operands placed.
+#[cycle(place)]
+fn gather(
+    alloc: Global,
+    plan: Plan,
+    shift: u32,
+    out: &mut Vec<Condition>,
+) -> Result<Plan, WantOfMemory>
+    requires fits { PlacesFit (plan_tree plan) }
+    requires narrow { Narrow (plan_tree plan) }
+    requires room { shift + measures.width (plan_tree plan) < 2 ^ 32 }
+    ensures bare { IfOk result (λ p. plan_tree p ≡ spec.bare (plan_tree plan)) }
+    ensures conditions { OnOk result (condition_trees out.new.items ≡ condition_trees out.old.items ++ map (spec.moved (λ k. shift + k)) (spec.conditions (plan_tree plan))) }
+{
+    match plan {
+        Plan::Table(_, _) => Ok(plan),
+        Plan::Proj(cols, operand) => {
+            let operand = into_placed(alloc, Box::into_inner(operand))?;
+            Ok(Plan::Proj(cols, Box::new(alloc, operand)?))
+        }
+        Plan::Dedup(operand) => {
+            let operand = into_placed(alloc, Box::into_inner(operand))?;
+            Ok(Plan::Dedup(Box::new(alloc, operand)?))
+        }
+        Plan::Filter(pred, cols, operand) => {
+            let bare = gather(alloc, Box::into_inner(operand), shift, out)?;
+            add_test(alloc, pred, &cols, shift, out)?;
+            Ok(bare)
+        }
+        Plan::InSub(cols, left, right) => {
+            let bare = gather(alloc, Box::into_inner(left), shift, out)?;
+            let right = into_placed(alloc, Box::into_inner(right))?;
+            add_member(alloc, &cols, right, shift, out)?;
+            Ok(bare)
+        }
+        Plan::InnerJoin(a, b, left, right) => {
+            let width = left.width();
+            let left = gather(alloc, Box::into_inner(left), shift, out)?;
+            let right = gather(alloc, Box::into_inner(right), shift + width, out)?;
+            inner_joined(alloc, a, b, left, right)
+        }
+        Plan::LeftJoin(a, b, left, right) => {
+            let left = gather(alloc, Box::into_inner(left), shift, out)?;
+            let right = into_placed(alloc, Box::into_inner(right))?;
+            left_joined(alloc, a, b, left, right)
+        }
+    }
+}
+
+/// The placed form of a plan that is not needed any more.
+#[cycle(place)]
+pub fn into_placed(alloc: Global, plan: Plan) -> Result<Plan, WantOfMemory>
+    requires fits { PlacesFit (plan_tree plan) }
+    requires narrow { Narrow (plan_tree plan) }
+    ensures placed { IfOk result (λ p. plan_tree p ≡ spec.placed (plan_tree plan)) }
+{
+    let mut conditions = Vec::new(alloc);
+    let bare = gather(alloc, plan, 0, &mut conditions)?;
+    settle(alloc, conditions, bare)
 }

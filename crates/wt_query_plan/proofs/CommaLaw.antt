@@ -9,7 +9,7 @@ use Rattle.wt_value.specs.Values.{Tuple, value_matches, row_matches, value_at, p
 use Rattle.wt_pred.specs.declared.tree.Cmp.TheVariants as signs
 use Rattle.wt_pred.specs.declared.tree.Operand.TheVariants as operands
 use Rattle.wt_pred.specs.Tree as preds
-use Rattle.wt_query_rows.specs.Tree.{FromTree, table, derived, inner_join, left_join, right_join, comma}
+use Rattle.wt_ast.specs.Tree.{FromTree, table, derived, inner_join, left_join, right_join, comma}
 use Rattle.wt_query_rows.specs.Scopes.{scope_of}
 use Rattle.wt_query_rows.specs.Rows.{from_rows}
 use Rattle.wt_plan.specs.Rows.{plan_rows, joined}

@@ -9,7 +9,7 @@ use Rattle.wt_bag.specs.Bags.{Each}
 use Rattle.wt_schema.specs.declared.schema.Table.{Table}
 use Rattle.wt_schema.specs.declared.schema.ColKind.{ColKind}
 use Rattle.wt_query_plan.specs.declared.fault.BuildFault.{BuildFault}
-use Rattle.wt_query_rows.specs.Tree.{QueryTree, FilterTree, FromTree, CondTree, CondTrees, select, no_filter, filter_by, table, derived, inner_join, left_join, right_join, comma, compare, is_null, is_not_null, in_list, in_query, all_of, any_of, negated, no_conds, cond_then}
+use Rattle.wt_ast.specs.Tree.{QueryTree, FilterTree, FromTree, CondTree, CondTrees, select, no_filter, filter_by, table, derived, inner_join, left_join, right_join, comma, compare, is_null, is_not_null, in_list, in_query, all_of, any_of, negated, no_conds, cond_then}
 use Rattle.wt_query_rows.specs.declared.scope.ScopeColumn.{ScopeColumn}
 use Rattle.wt_query_rows.specs.Scopes.{scope_of, output_names}
 use Rattle.wt_query_plan.specs.Building.{Conjunct, conjunct_columns, conjuncts, all_conjuncts, pair_of, others_of}

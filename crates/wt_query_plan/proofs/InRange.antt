@@ -16,7 +16,7 @@ use Rattle.wt_ast.specs.declared.tree.ColumnName.{ColumnName}
 use Rattle.wt_ast.specs.declared.tree.Scalar.{Scalar}
 use Rattle.wt_ast.specs.declared.tree.Scalar.TheVariants as scalars
 use Rattle.wt_query_rows.specs.declared.scope.ScopeColumn.{ScopeColumn}
-use Rattle.wt_query_rows.specs.Tree.{QueryTree, FilterTree, FromTree, CondTree, CondTrees, select, no_filter, filter_by, table, derived, inner_join, left_join, right_join, comma, compare, is_null, is_not_null, in_list, in_query, all_of, any_of, negated, no_conds, cond_then}
+use Rattle.wt_ast.specs.Tree.{QueryTree, FilterTree, FromTree, CondTree, CondTrees, select, no_filter, filter_by, table, derived, inner_join, left_join, right_join, comma, compare, is_null, is_not_null, in_list, in_query, all_of, any_of, negated, no_conds, cond_then}
 use Rattle.wt_query_rows.specs.Scopes.{fits, scope_of, columns_named}
 use Rattle.wt_query_rows.specs.Rows.{query_rows}
 use Rattle.wt_plan.specs.Tree.{PlanTree}

@@ -5,7 +5,7 @@ use Rattle.wt_value.specs.declared.value.Value.{Value}
 use Rattle.wt_value.specs.Truths as truths_of
 use Rattle.wt_value.specs.Truths.{equality, not_of}
 use Rattle.wt_value.specs.Values.{Tuple, value_at, pick}
-use Rattle.wt_query_rows.specs.Tree.{CondTree, CondTrees, compare, is_null, is_not_null, in_list, in_query, all_of, any_of, negated, no_conds, cond_then}
+use Rattle.wt_ast.specs.Tree.{CondTree, CondTrees, compare, is_null, is_not_null, in_list, in_query, all_of, any_of, negated, no_conds, cond_then}
 use Rattle.wt_query_rows.specs.declared.scope.ScopeColumn.{ScopeColumn}
 use Rattle.wt_query_rows.specs.Scopes.{fits, is_of}
 use Rattle.wt_query_rows.specs.Rows.{Cell, Named, named, values, value_of, scalar_of, item_values, chosen, sign_of, truth_at, truths_at}

@@ -7,7 +7,7 @@ use Rattle.wt_bag.proofs.EachLaws.{each_implies, each_map, each_for, each_distin
 use Rattle.wt_bag.proofs.TotalLaws.{total-map, total-filter, total_each, total_ext}
 use Rattle.wt_value.specs.Values.{Tuple, row_same, value_at, pick}
 use Rattle.wt_value.proofs.Comparing.{row_same_decides}
-use Rattle.wt_query_rows.specs.Tree.{FromTree, table, derived, inner_join, left_join, right_join, comma}
+use Rattle.wt_ast.specs.Tree.{FromTree, table, derived, inner_join, left_join, right_join, comma}
 use Rattle.wt_query_rows.specs.declared.scope.ScopeColumn.{ScopeColumn}
 use Rattle.wt_query_rows.specs.Scopes.{is_of, item_names, scope_of}
 use Rattle.wt_query_rows.specs.Rows.{Named, named, chosen, once}

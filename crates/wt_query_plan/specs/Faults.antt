@@ -19,7 +19,7 @@ use Rattle.wt_ast.specs.declared.tree.Item.TheVariants.{Star, AllOf, Column}
 use Rattle.wt_ast.specs.declared.tree.Scalar.{Scalar}
 use Rattle.wt_ast.specs.declared.tree.Scalar.TheVariants as scalars
 use Rattle.wt_query_plan.specs.declared.fault.BuildFault.{BuildFault}
-use Rattle.wt_query_rows.specs.Tree.{QueryTree, FilterTree, FromTree, CondTree, CondTrees, select, no_filter, filter_by, table, derived, inner_join, left_join, right_join, comma, compare, is_null, is_not_null, in_list, in_query, all_of, any_of, negated, no_conds, cond_then}
+use Rattle.wt_ast.specs.Tree.{QueryTree, FilterTree, FromTree, CondTree, CondTrees, select, no_filter, filter_by, table, derived, inner_join, left_join, right_join, comma, compare, is_null, is_not_null, in_list, in_query, all_of, any_of, negated, no_conds, cond_then}
 use Rattle.wt_query_rows.specs.declared.scope.ScopeColumn.{ScopeColumn}
 use Rattle.wt_query_rows.specs.Scopes.{fits, is_of, columns_named, scope_of, output_names}
 use Rattle.wt_query_plan.specs.Building.{kept_by, link, Conjunct, conjunct_columns, conjuncts, pair_of, place_of, operand_of, places_where, pred_of}

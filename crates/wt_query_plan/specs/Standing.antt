@@ -6,7 +6,7 @@ use Rattle.std.specs.Str.{bytes_eq}
 use Rattle.wt_bag.specs.Bags.{Each}
 use Rattle.wt_value.specs.Values.{Tuple}
 use Rattle.wt_schema.specs.declared.schema.Table.{Table}
-use Rattle.wt_query_rows.specs.Tree.{QueryTree, FilterTree, FromTree, CondTree, CondTrees, select, no_filter, filter_by, table, derived, inner_join, left_join, right_join, comma, in_query, all_of, no_conds, cond_then}
+use Rattle.wt_ast.specs.Tree.{QueryTree, FilterTree, FromTree, CondTree, CondTrees, select, no_filter, filter_by, table, derived, inner_join, left_join, right_join, comma, in_query, all_of, no_conds, cond_then}
 use Rattle.wt_query_rows.specs.Scopes.{scope_of, output_names, columns_named}
 use Rattle.wt_query_rows.specs.Rows.{table_rows}
 use Rattle.wt_query_plan.specs.Building.{Conjunct, conjunct_columns, conjuncts, others_of}

@@ -2,7 +2,7 @@
 ghost use Rattle.std.specs.Prelude.{◌≡◌, None, List, []};
 ghost use Rattle.wt_value.specs.Values.{Tuple, IsOneBag};
 ghost use Rattle.wt_schema.specs.declared.schema.Table.{Table};
-ghost use Rattle.wt_query_rows.specs.Tree.{QueryTree};
+ghost use Rattle.wt_ast.specs.Tree.{QueryTree};
 ghost use Rattle.wt_query_rows.specs.Rows.{query_rows};
 ghost use Rattle.wt_plan.specs.Rows.{plan_rows};
 ghost use Rattle.wt_place.specs.Placing.{placed};

@@ -8,7 +8,7 @@ use Rattle.wt_ast.specs.declared.tree.Item.TheVariants.{Star, AllOf, Column}
 use Rattle.wt_schema.specs.declared.schema.Table.{Table}
 use Rattle.wt_schema.specs.declared.schema.Column as columns
 use Rattle.wt_query_rows.specs.declared.scope.ScopeColumn.{ScopeColumn}
-use Rattle.wt_query_rows.specs.Tree.{QueryTree, FromTree, select, table, derived, inner_join, left_join, right_join, comma}
+use Rattle.wt_ast.specs.Tree.{QueryTree, FromTree, select, table, derived, inner_join, left_join, right_join, comma}
 
 -- a column in scope: the alias of its FROM item, and its name
 abbrev pub in_scope : List ℕ → List ℕ → ScopeColumn

@@ -8,6 +8,7 @@ use Rattle.wt_schema.specs.declared.schema.Table.{Table}
 use Rattle.wt_query_rows.specs.declared.scope.ScopeColumn.{ScopeColumn}
 use Rattle.wt_query_rows.specs.Scopes.{in_scope, scope_of}
 use Rattle.wt_build.specs.declared.lookup.ScopeItem.{ScopeItem}
+use Rattle.wt_build.specs.declared.lookup.Scope.{Scope}
 
 abbrev pub item_columns : ScopeItem → List ScopeColumn
 item_columns i = map (in_scope i.alias) i.names
@@ -24,3 +25,10 @@ outer_columns S outer = flat_map (λ (f : Bor FromPart). scope_of S (from_tree f
 abbrev pub named_at : List (List ℕ) → List ℕ → ℕ
 named_at [] name = 0
 named_at (n ∷ names) name = if bytes_eq name n then 0 else suc (named_at names name)
+
+-- the columns of enclosing queries, and those in scope
+abbrev pub outside : Scope → List ScopeColumn
+outside s = outer_columns s.schema.now.tables s.outer.now
+
+abbrev pub inside : Scope → List ScopeColumn
+inside s = columns_of s.items.now

@@ -12,7 +12,7 @@ use crate::numbers::{number, sum};
 use std::alloc::Global;
 use wt_ast::{ColumnName, FromPart};
 use wt_query_plan::{BuildError, BuildFault};
-use wt_schema::Schema;
+use wt_schema::{ColKind, Schema};
 use wt_value::{Name, Names};
 
 /// A FROM item in scope: its alias, and the names of its columns.
@@ -107,25 +107,29 @@ fn place_of(items: &[ScopeItem], c: &ColumnName) -> Result<usize, BuildError>
     Ok(before)
 }
 
+/// What the names of a condition are looked up in: the schema, the FROM clauses of enclosing queries, the FROM items in scope,
+/// and the kinds of their columns.
+#[derive(Clone, Copy)]
+pub struct Scope<'a> {
+    pub schema: &'a Schema,
+    pub outer: &'a [&'a FromPart],
+    pub items: &'a [ScopeItem],
+    pub kinds: &'a [ColKind],
+}
+
 /// The place of the one column that the name fits.
-pub fn column(
-    alloc: Global,
-    schema: &Schema,
-    outer: &[&FromPart],
-    items: &[ScopeItem],
-    c: &ColumnName,
-) -> Result<u32, BuildError>
-    ensures { Tells (faults.column_fault (spec.outer_columns schema.now.tables outer.now) (spec.columns_of items.now) c.now) (λ k. k ≡ building.place_of (spec.columns_of items.now) c.now) result }
+pub fn column(alloc: Global, scope: &Scope, c: &ColumnName) -> Result<u32, BuildError>
+    ensures { Tells (faults.column_fault (spec.outside scope.now) (spec.inside scope.now) c.now) (λ k. k ≡ building.place_of (spec.inside scope.now) c.now) result }
 {
-    match fitting(items, c) {
+    match fitting(scope.items, c) {
         0 => {
-            if seen_outside(alloc, schema, outer, c)? {
+            if seen_outside(alloc, scope.schema, scope.outer, c)? {
                 Err(BuildError::Refused(BuildFault::CorrelatedColumn, c.at))
             } else {
                 Err(BuildError::Refused(BuildFault::UnknownColumn, c.at))
             }
         }
-        1 => number(place_of(items, c)?),
+        1 => number(place_of(scope.items, c)?),
         _ => Err(BuildError::Refused(BuildFault::AmbiguousColumn, c.at)),
     }
 }

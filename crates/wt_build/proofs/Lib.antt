@@ -1,2 +1,2 @@
-pub mod Lookups
-pub mod Befores
+pub mod Uptos
+pub mod Selects

@@ -1,2 +1,3 @@
-pub mod Scoping
-pub mod Views
+pub mod Parts
+pub mod Selecting
+pub mod Taking

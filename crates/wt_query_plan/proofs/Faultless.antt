@@ -13,7 +13,7 @@ use Rattle.wt_ast.specs.Tree.{QueryTree, FilterTree, FromTree, CondTree, CondTre
 use Rattle.wt_query_rows.specs.declared.scope.ScopeColumn.{ScopeColumn}
 use Rattle.wt_query_rows.specs.Scopes.{scope_of, output_names}
 use Rattle.wt_query_plan.specs.Building.{Conjunct, conjunct_columns, conjuncts, all_conjuncts, pair_of, others_of}
-use Rattle.wt_query_plan.specs.Faults.{Fault, first_of, fault_if, query_fault, from_fault, joins_fault, filter_fault, cond_fault, conds_fault, outer_fault, conjunct_places, all_places, kinds_of}
+use Rattle.wt_query_plan.specs.Faults.{Fault, first_of, fault_if, query_fault, from_fault, joins_fault, filter_fault, cond_fault, conds_fault, outer_one, outer_fault, conjunct_places, all_places, kinds_of}
 use Rattle.wt_query_plan.specs.Standing.{Stands, FilterStands, FromStands, CondStands, AllStand}
 
 pub neither : (f g : Fault) → first_of f g ≡ None → (f ≡ None) × (g ≡ None)
@@ -33,17 +33,17 @@ each_of P t says (k ∷ cols) e = here (t k) refl e (each_of P t says cols)
     here false f e more = cc
 
 -- conjuncts that are no pairs are on the padded columns alone
-padded_alone : (P : ℕ → Type 0) (t : ℕ → Bool) → ((k : ℕ) → t k ≡ true → P k) → (n : ℕ) (js : List Conjunct) (ats : List ℕ) → length ats ≡ length js
+pub padded_alone : (P : ℕ → Type 0) (t : ℕ → Bool) → ((k : ℕ) → t k ≡ true → P k) → (n : ℕ) (js : List Conjunct) (ats : List ℕ) → length ats ≡ length js
     → outer_fault t n js ats ≡ None → Each (λ j. Each P (conjunct_columns j)) (others_of n js)
 padded_alone P t says n [] ats l e = tt
 padded_alone P t says n (j ∷ js) [] l e = absurd (let bad : ⊥ = omega (arith, l) in bad)
-padded_alone P t says n (j ∷ js) (at ∷ ats) l e = here (is_some (pair_of n j)) (list_all t (conjunct_columns j)) refl e (padded_alone P t says n js ats (omega (arith, l)))
+padded_alone P t says n (j ∷ js) (at ∷ ats) l e =
+    let a = neither (outer_one t n j at) (outer_fault t n js ats) e in
+    here (is_some (pair_of n j)) (list_all t (conjunct_columns j)) refl (no_fault _ _ _ a.0) (padded_alone P t says n js ats (omega (arith, l)) a.1)
   where
-    here : (b c : Bool) → list_all t (conjunct_columns j) ≡ c
-        → cond (b || c) (outer_fault t n js ats) (Some (cond (list_any t (conjunct_columns j)) Rattle.wt_query_plan.specs.declared.fault.BuildFault.TheVariants.OnMixedCondition Rattle.wt_query_plan.specs.declared.fault.BuildFault.TheVariants.OnLeftCondition, at)) ≡ None
-        → (outer_fault t n js ats ≡ None → Each (λ i. Each P (conjunct_columns i)) (others_of n js)) → Each (λ i. Each P (conjunct_columns i)) (cond (not b) (j ∷ others_of n js) (others_of n js))
-    here true c f e more = more e
-    here false true f e more = (each_of P t says (conjunct_columns j) f, more e)
+    here : (b c : Bool) → list_all t (conjunct_columns j) ≡ c → (b || c) ≡ true → Each (λ i. Each P (conjunct_columns i)) (others_of n js) → Each (λ i. Each P (conjunct_columns i)) (cond (not b) (j ∷ others_of n js) (others_of n js))
+    here true c f e more = more
+    here false true f e more = (each_of P t says (conjunct_columns j) f, more)
     here false false f e more = cc
 
 not_less : (n k : ℕ) → not (nat_lt k n) ≡ true → n ≤ k

@@ -133,13 +133,15 @@ abbrev mutual
   all_places no_conds = []
   all_places (cond_then c cs) = conjunct_places c ++ all_places cs
 
--- the first conjunct that is no pair and not on the padded operand's columns alone; the tests are 'padded' and 'kept'
+-- a conjunct that is no pair and not on columns of the padded operand alone, by the test 'padded'
+abbrev pub outer_one : (ℕ → Bool) → ℕ → Conjunct → ℕ → Fault
+outer_one padded n j at =
+    fault_if (not (is_some (pair_of n j) || list_all padded (conjunct_columns j))) (if list_any padded (conjunct_columns j) then faults.OnMixedCondition else faults.OnLeftCondition) at
+
+-- the first of them
 abbrev pub outer_fault : (ℕ → Bool) → ℕ → List Conjunct → List ℕ → Fault
-outer_fault padded n [] ats = None
-outer_fault padded n (j ∷ js) [] = None
-outer_fault padded n (j ∷ js) (at ∷ ats) =
-    if is_some (pair_of n j) || list_all padded (conjunct_columns j) then outer_fault padded n js ats
-    else Some (if list_any padded (conjunct_columns j) then faults.OnMixedCondition else faults.OnLeftCondition, at)
+outer_fault padded n (j ∷ js) (at ∷ ats) = first_of (outer_one padded n j at) (outer_fault padded n js ats)
+outer_fault padded n _ _ = None
 
 abbrev pub unpaired : ℕ → List Conjunct → Bool
 unpaired n js = not (list_any (λ j. is_some (pair_of n j)) js)

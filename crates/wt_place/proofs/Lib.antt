@@ -3,3 +3,4 @@ pub mod PlaceLaw
 pub mod Measured
 pub mod Sorting
 pub mod NarrowKept
+pub mod Fitting

@@ -34,8 +34,7 @@ narrow_settle cs (inner_join a b l r) h k =
     let n = width l in
     let ls = filter (in_left n) cs in
     let rs = map (moved (λ k. k - n)) (filter (in_right n) cs) in
-    narrow_stand (filter (in_both n) cs) (inner_join a b (settle ls l) (settle rs r)) (each_filter NarrowCondition (in_both n) cs h)
-    (
+    narrow_stand (filter (in_both n) cs) (inner_join a b (settle ls l) (settle rs r)) (each_filter NarrowCondition (in_both n) cs h) (
       subst (λ m. m < 2 ^ 32) (λ i. sym (width_settle ls l) i + sym (width_settle rs r) i) k.0,
       narrow_settle ls l (each_filter NarrowCondition (in_left n) cs h) k.1,
       narrow_settle rs r (all_narrow_moved (λ k. k - n) (filter (in_right n) cs) (each_filter NarrowCondition (in_right n) cs h)) k.2,

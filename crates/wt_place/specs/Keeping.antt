@@ -20,3 +20,13 @@ Fits base (filtered q cols p) = Each (λ k. k < width p) cols × Fits base p
 Fits base (in_sub cols l r) = Each (λ k. k < width l) cols × Fits base l × Fits base r
 Fits base (inner_join a b l r) = Fits base l × Fits base r
 Fits base (left_join a b l r) = Fits base l × Fits base r
+
+-- the columns of each condition are there
+abbrev pub ConditionsFit : PlanTree → Type 0
+ConditionsFit (table n w) = Unit {0}
+ConditionsFit (proj cols p) = ConditionsFit p
+ConditionsFit (dedup p) = ConditionsFit p
+ConditionsFit (filtered q cols p) = Each (λ k. k < width p) cols × ConditionsFit p
+ConditionsFit (in_sub cols l r) = Each (λ k. k < width l) cols × ConditionsFit l × ConditionsFit r
+ConditionsFit (inner_join a b l r) = ConditionsFit l × ConditionsFit r
+ConditionsFit (left_join a b l r) = ConditionsFit l × ConditionsFit r

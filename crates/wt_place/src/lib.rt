@@ -3,7 +3,7 @@
 
 mod condition;
 mod laws;
-mod place;
+mod placing;
 
 pub use laws::{placing_keeps_measures, placing_keeps_rows};
-pub use place::into_placed;
+pub use placing::{into_placed, place};

@@ -89,33 +89,33 @@ module _ (S : List Table) where
         (from_stands l outer before block a.0 b.0, from_stands r outer _ block a.1 b.1)
     from_stands (inner_join l r on at) outer before block e k =
         let a = neither (from_fault S outer before l) _ e in
-        let b = neither (joins_fault S outer block l) _ k in
-        let c = neither (joins_fault S outer block r) _ b.1 in
-        let d = neither (cond_fault S outer block (scope_of S l ++ scope_of S r) (kinds_of S l ++ kinds_of S r) on) _ c.1 in
-        (from_stands l outer before block a.0 b.0, from_stands r outer _ block a.1 c.0, cond_stands on outer block (scope_of S l ++ scope_of S r) (kinds_of S l ++ kinds_of S r) d.0)
+        let o = neither (first_of (joins_fault S outer block l) (joins_fault S outer block r)) _ k in
+        let b = neither (joins_fault S outer block l) (joins_fault S outer block r) o.0 in
+        let d = neither (cond_fault S outer block (scope_of S l ++ scope_of S r) (kinds_of S l ++ kinds_of S r) on) _ o.1 in
+        (from_stands l outer before block a.0 b.0, from_stands r outer _ block a.1 b.1, cond_stands on outer block (scope_of S l ++ scope_of S r) (kinds_of S l ++ kinds_of S r) d.0)
     from_stands (left_join l r on at) outer before block e k =
         let a = neither (from_fault S outer before l) _ e in
-        let b = neither (joins_fault S outer block l) _ k in
-        let c = neither (joins_fault S outer block r) _ b.1 in
-        let d = neither (cond_fault S outer block (scope_of S l ++ scope_of S r) (kinds_of S l ++ kinds_of S r) on) _ c.1 in
+        let o = neither (first_of (joins_fault S outer block l) (joins_fault S outer block r)) _ k in
+        let b = neither (joins_fault S outer block l) (joins_fault S outer block r) o.0 in
+        let d = neither (cond_fault S outer block (scope_of S l ++ scope_of S r) (kinds_of S l ++ kinds_of S r) on) _ o.1 in
         let n = length (scope_of S l) in
         let js = conjuncts S (scope_of S l ++ scope_of S r) on in
         let f = neither (outer_fault (λ k. not (nat_lt k n)) n js (conjunct_places on)) _ d.1 in (
           from_stands l outer before block a.0 b.0,
-          from_stands r outer _ block a.1 c.0,
+          from_stands r outer _ block a.1 b.1,
           cond_stands on outer block (scope_of S l ++ scope_of S r) (kinds_of S l ++ kinds_of S r) d.0,
           padded_alone (λ k. n ≤ k) (λ k. not (nat_lt k n)) (not_less n) n js (conjunct_places on) (as_many (scope_of S l ++ scope_of S r) on) f.0,
         )
     from_stands (right_join l r on at) outer before block e k =
         let a = neither (from_fault S outer before l) _ e in
-        let b = neither (joins_fault S outer block l) _ k in
-        let c = neither (joins_fault S outer block r) _ b.1 in
-        let d = neither (cond_fault S outer block (scope_of S l ++ scope_of S r) (kinds_of S l ++ kinds_of S r) on) _ c.1 in
+        let o = neither (first_of (joins_fault S outer block l) (joins_fault S outer block r)) _ k in
+        let b = neither (joins_fault S outer block l) (joins_fault S outer block r) o.0 in
+        let d = neither (cond_fault S outer block (scope_of S l ++ scope_of S r) (kinds_of S l ++ kinds_of S r) on) _ o.1 in
         let n = length (scope_of S l) in
         let js = conjuncts S (scope_of S l ++ scope_of S r) on in
         let f = neither (outer_fault (λ k. nat_lt k n) n js (conjunct_places on)) _ d.1 in (
           from_stands l outer before block a.0 b.0,
-          from_stands r outer _ block a.1 c.0,
+          from_stands r outer _ block a.1 b.1,
           cond_stands on outer block (scope_of S l ++ scope_of S r) (kinds_of S l ++ kinds_of S r) d.0,
           padded_alone (λ k. k < n) (λ k. nat_lt k n) (λ k. ltb-true k n) n js (conjunct_places on) (as_many (scope_of S l ++ scope_of S r) on) f.0,
         )

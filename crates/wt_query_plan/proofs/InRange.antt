@@ -175,23 +175,23 @@ module _ (base : List (List Tuple)) where
           (fits_from l ws outer before block a.0 b.0, fits_from r [] outer _ block a.1 b.1)
       fits_from (inner_join l r on at) ws outer before block e k =
           let a = neither (from_fault S outer before l) _ e in
-          let b = neither (joins_fault S outer block l) _ k in
-          let c = neither (joins_fault S outer block r) _ b.1 in
-          let d = neither (cond_fault S outer block (scope_of S l ++ scope_of S r) (kinds_of S l ++ kinds_of S r) on) _ c.1 in
+          let o = neither (first_of (joins_fault S outer block l) (joins_fault S outer block r)) _ k in
+          let b = neither (joins_fault S outer block l) (joins_fault S outer block r) o.0 in
+          let d = neither (cond_fault S outer block (scope_of S l ++ scope_of S r) (kinds_of S l ++ kinds_of S r) on) _ o.1 in
           let ol = from_operand S base fit l (from_stands S l outer before block a.0 b.0) in
-          let or = from_operand S base fit r (from_stands S r outer _ block a.1 c.0) in
+          let or = from_operand S base fit r (from_stands S r outer _ block a.1 b.1) in
           let whole = from_operand S base fit (inner_join l r on at) (from_stands S (inner_join l r on at) outer before block e k) in
           let js = conjuncts S (scope_of S l ++ scope_of S r) on in
           fits_stacked (places_of S (inner_join l r on at)) whole.within (others_of (length (scope_of S l)) js)
           (each_filter (ConjunctFits (length (places_of S (inner_join l r on at)))) _ js
           (subst (λ n. Each (ConjunctFits n) js) (sym whole.same_length) (fits_cond on outer block (scope_of S l ++ scope_of S r) (kinds_of S l ++ kinds_of S r) d.0)))
           _ (omega (arith, ol.planned_width, or.planned_width, length-append (places_of S l) (map (λ k. length (scope_of S l) + k) (places_of S r)), length_map (λ k. length (scope_of S l) + k) (places_of S r)))
-          (fits_from l [] outer before block a.0 b.0, fits_from r [] outer _ block a.1 c.0)
+          (fits_from l [] outer before block a.0 b.0, fits_from r [] outer _ block a.1 b.1)
       fits_from (left_join l r on at) ws outer before block e k =
           let a = neither (from_fault S outer before l) _ e in
-          let b = neither (joins_fault S outer block l) _ k in
-          let c = neither (joins_fault S outer block r) _ b.1 in
-          let d = neither (cond_fault S outer block (scope_of S l ++ scope_of S r) (kinds_of S l ++ kinds_of S r) on) _ c.1 in
+          let o = neither (first_of (joins_fault S outer block l) (joins_fault S outer block r)) _ k in
+          let b = neither (joins_fault S outer block l) (joins_fault S outer block r) o.0 in
+          let d = neither (cond_fault S outer block (scope_of S l ++ scope_of S r) (kinds_of S l ++ kinds_of S r) on) _ o.1 in
           let stands = from_stands S (left_join l r on at) outer before block e k in
           let or = from_operand S base fit r stands.1 in
           let n = length (scope_of S l) in
@@ -204,18 +204,18 @@ module _ (base : List (List Tuple)) where
                 (λ j h l. fits_right n (length (places_of S r)) j h l)
                 (each_filter (ConjunctFits (n + length (places_of S r))) _ js (subst (λ m. Each (ConjunctFits m) js) both (fits_cond on outer block (scope_of S l ++ scope_of S r) (kinds_of S l ++ kinds_of S r) d.0)))
                 stands.3))
-                (from_plan S [] r) or.planned_width (fits_from r [] outer _ block a.1 c.0),
+                (from_plan S [] r) or.planned_width (fits_from r [] outer _ block a.1 b.1),
           )
       fits_from (right_join l r on at) ws outer before block e k =
           let a = neither (from_fault S outer before l) _ e in
-          let b = neither (joins_fault S outer block l) _ k in
-          let c = neither (joins_fault S outer block r) _ b.1 in
-          let d = neither (cond_fault S outer block (scope_of S l ++ scope_of S r) (kinds_of S l ++ kinds_of S r) on) _ c.1 in
+          let o = neither (first_of (joins_fault S outer block l) (joins_fault S outer block r)) _ k in
+          let b = neither (joins_fault S outer block l) (joins_fault S outer block r) o.0 in
+          let d = neither (cond_fault S outer block (scope_of S l ++ scope_of S r) (kinds_of S l ++ kinds_of S r) on) _ o.1 in
           let stands = from_stands S (right_join l r on at) outer before block e k in
           let ol = from_operand S base fit l stands.0 in
           let n = length (scope_of S l) in
           let js = conjuncts S (scope_of S l ++ scope_of S r) on in (
-            fits_from r [] outer _ block a.1 c.0,
+            fits_from r [] outer _ block a.1 b.1,
             fits_stacked (places_of S l) ol.within (others_of n js)
                 (each_both (ConjunctFits (length (scope_of S l ++ scope_of S r))) (λ j. Each (λ k. k < n) (conjunct_columns j)) (ConjunctFits (length (places_of S l))) (others_of n js)
                 (λ j h l. (subst (λ m. Each (λ k. k < m) (conjunct_columns j)) (sym ol.same_length) l, h.1))

@@ -208,19 +208,19 @@ abbrev mutual
   joins_fault S outer block (derived q alias columns at alias_at) = None
   joins_fault S outer block (comma l r at) = first_of (joins_fault S outer block l) (joins_fault S outer block r)
   joins_fault S outer block (inner_join l r on at) =
-      first_of (joins_fault S outer block l) (first_of (joins_fault S outer block r)
+      first_of (first_of (joins_fault S outer block l) (joins_fault S outer block r))
       (first_of (cond_fault S outer block (scope_of S l ++ scope_of S r) (kinds_of S l ++ kinds_of S r) on)
-      (fault_if (unpaired (length (scope_of S l)) (conjuncts S (scope_of S l ++ scope_of S r) on)) faults.NoJoinEquality at)))
+      (fault_if (unpaired (length (scope_of S l)) (conjuncts S (scope_of S l ++ scope_of S r) on)) faults.NoJoinEquality at))
   joins_fault S outer block (left_join l r on at) =
-      first_of (joins_fault S outer block l) (first_of (joins_fault S outer block r)
+      first_of (first_of (joins_fault S outer block l) (joins_fault S outer block r))
       (first_of (cond_fault S outer block (scope_of S l ++ scope_of S r) (kinds_of S l ++ kinds_of S r) on)
       (first_of (outer_fault (λ k. not (nat_lt k (length (scope_of S l)))) (length (scope_of S l)) (conjuncts S (scope_of S l ++ scope_of S r) on) (conjunct_places on))
-      (fault_if (unpaired (length (scope_of S l)) (conjuncts S (scope_of S l ++ scope_of S r) on)) faults.NoJoinEquality at))))
+      (fault_if (unpaired (length (scope_of S l)) (conjuncts S (scope_of S l ++ scope_of S r) on)) faults.NoJoinEquality at)))
   joins_fault S outer block (right_join l r on at) =
-      first_of (joins_fault S outer block l) (first_of (joins_fault S outer block r)
+      first_of (first_of (joins_fault S outer block l) (joins_fault S outer block r))
       (first_of (cond_fault S outer block (scope_of S l ++ scope_of S r) (kinds_of S l ++ kinds_of S r) on)
       (first_of (outer_fault (λ k. nat_lt k (length (scope_of S l))) (length (scope_of S l)) (conjuncts S (scope_of S l ++ scope_of S r) on) (conjunct_places on))
-      (fault_if (unpaired (length (scope_of S l)) (conjuncts S (scope_of S l ++ scope_of S r) on)) faults.NoJoinEquality at))))
+      (fault_if (unpaired (length (scope_of S l)) (conjuncts S (scope_of S l ++ scope_of S r) on)) faults.NoJoinEquality at)))
 
   pub filter_fault : List Table → List ScopeColumn → List ScopeColumn → List ColKind → FilterTree → Fault
   filter_fault S outer block ks no_filter = None

@@ -1,5 +1,5 @@
 use Rattle.std.proofs.Common.{◌+◌, ◌*◌}
-use Rattle.wt_place.proofs.place.+place.Given as goal
+use Rattle.wt_place.proofs.placing.+gather.Given as goal
 
 abbrev pub decreases-gather : goal.decreases-gather
 decreases-gather l = 2 * goal.size-gather l

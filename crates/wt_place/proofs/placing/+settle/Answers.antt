@@ -6,7 +6,7 @@ use Rattle.wt_plan.proofs.Narrowness.{narrow_width}
 use Rattle.wt_place.specs.Placing as spec
 use Rattle.wt_place.specs.Views.{condition_trees}
 use Rattle.wt_place.proofs.Sorting.{settle_inner, settle_left, small_min}
-use Rattle.wt_place.proofs.place.+settle.Goals as goal
+use Rattle.wt_place.proofs.placing.+settle.Goals as goal
 
 pub returns-in_ok-inner_joined-in-InnerJoin : goal.returns-in_ok-inner_joined-in-InnerJoin
 returns-in_ok-inner_joined-in-InnerJoin t c =

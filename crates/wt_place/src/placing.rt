@@ -4,9 +4,9 @@ ghost use Rattle.wt_value.specs.Values.{Tuple, IsOneBag};
 ghost use Rattle.wt_plan.specs.Tree.{plan_tree, inner_join, left_join};
 ghost use Rattle.wt_plan.specs.Measures as measures;
 ghost use Rattle.wt_plan.specs.Rows.{plan_rows, TablesWide};
-ghost use Rattle.wt_plan.specs.WellFormed.{WellFormed, PlacesFit, Narrow};
+ghost use Rattle.wt_plan.specs.WellFormed.{WellFormed, Narrow};
 ghost use Rattle.wt_place.specs.Placing as spec;
-ghost use Rattle.wt_place.specs.Keeping.{IsPlaced};
+ghost use Rattle.wt_place.specs.Keeping.{IsPlaced, ConditionsFit};
 ghost use Rattle.wt_place.specs.Views.{condition_trees};
 
 use crate::condition::{Condition, Side, add_member, add_test, all_lowered, split_by_side, stand};
@@ -72,14 +72,14 @@ fn settle(alloc: Global, conditions: Vec<Condition>, plan: Plan) -> Result<Plan,
 
 /// Takes the conditions of a zone off, and adds them, counted from as many columns more, to others. What is left has its
 /// operands placed.
-#[cycle(place)]
+#[cycle(gather)]
 fn gather(
     alloc: Global,
     plan: Plan,
     shift: u32,
     out: &mut Vec<Condition>,
 ) -> Result<Plan, WantOfMemory>
-    requires fits { PlacesFit (plan_tree plan) }
+    requires fits { ConditionsFit (plan_tree plan) }
     requires narrow { Narrow (plan_tree plan) }
     requires room { shift + measures.width (plan_tree plan) < 2 ^ 32 }
     ensures bare { IfOk result (λ p. plan_tree p ≡ spec.bare (plan_tree plan)) }
@@ -121,13 +121,26 @@ fn gather(
 }
 
 /// The placed form of a plan that is not needed any more.
-#[cycle(place)]
+#[cycle(gather)]
 pub fn into_placed(alloc: Global, plan: Plan) -> Result<Plan, WantOfMemory>
-    requires fits { PlacesFit (plan_tree plan) }
+    requires fits { ConditionsFit (plan_tree plan) }
     requires narrow { Narrow (plan_tree plan) }
     ensures placed { IfOk result (λ p. plan_tree p ≡ spec.placed (plan_tree plan)) }
 {
     let mut conditions = Vec::new(alloc);
     let bare = gather(alloc, plan, 0, &mut conditions)?;
     settle(alloc, conditions, bare)
+}
+
+/// The placed form of a plan.
+pub fn place(alloc: Global, plan: &Plan) -> Result<Plan, WantOfMemory>
+    requires well_formed { WellFormed (plan_tree plan.now) }
+    ensures placed { IfOk result (λ p. plan_tree p ≡ spec.placed (plan_tree plan.now)) }
+    ensures rows { IfOk result (λ p. (base : List (List Tuple)) → TablesWide base (plan_tree plan.now) → IsOneBag (plan_rows base (plan_tree plan.now)) (plan_rows base (plan_tree p))) }
+    ensures width { IfOk result (λ p. measures.width (plan_tree p) ≡ measures.width (plan_tree plan.now)) }
+    ensures cost { IfOk result (λ p. measures.cost (plan_tree p) ≡ measures.cost (plan_tree plan.now)) }
+    ensures nodes { IfOk result (λ p. measures.node_count (plan_tree p) ≡ measures.node_count (plan_tree plan.now)) }
+{
+    let copy = plan.copy(alloc)?;
+    into_placed(alloc, copy)
 }

@@ -8,7 +8,7 @@ use Rattle.wt_place.specs.Placing as spec
 use Rattle.wt_place.specs.Views.{condition_trees}
 use Rattle.wt_place.proofs.NarrowKept.{narrow_bare}
 use Rattle.wt_place.proofs.Sorting.{always, both_gathered, placed_from, small_min}
-use Rattle.wt_place.proofs.place.+place.Goals as goal
+use Rattle.wt_place.proofs.placing.+gather.Goals as goal
 
 pub gather-returns-in_ok-right-in-InnerJoin-clause-conditions : goal.gather-returns-in_ok-right-in-InnerJoin-clause-conditions
 gather-returns-in_ok-right-in-InnerJoin-clause-conditions t c =

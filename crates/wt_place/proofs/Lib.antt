@@ -4,3 +4,4 @@ pub mod Measured
 pub mod Sorting
 pub mod NarrowKept
 pub mod Fitting
+pub mod Regularity

@@ -5,6 +5,8 @@ ghost use Rattle.wt_plan.specs.Tree.{plan_tree, inner_join, left_join};
 ghost use Rattle.wt_plan.specs.Measures as measures;
 ghost use Rattle.wt_plan.specs.Rows.{plan_rows, TablesWide};
 ghost use Rattle.wt_plan.specs.WellFormed.{WellFormed, Narrow};
+ghost use Rattle.wt_plan.specs.Regular.{Regular};
+ghost use Rattle.wt_schema.specs.declared.schema.Table.{Table};
 ghost use Rattle.wt_place.specs.Placing as spec;
 ghost use Rattle.wt_place.specs.Keeping.{IsPlaced, ConditionsFit};
 ghost use Rattle.wt_place.specs.Views.{condition_trees};
@@ -140,6 +142,7 @@ pub fn place(alloc: Global, plan: &Plan) -> Result<Plan, WantOfMemory>
     ensures width { IfOk result (λ p. measures.width (plan_tree p) ≡ measures.width (plan_tree plan.now)) }
     ensures cost { IfOk result (λ p. measures.cost (plan_tree p) ≡ measures.cost (plan_tree plan.now)) }
     ensures nodes { IfOk result (λ p. measures.node_count (plan_tree p) ≡ measures.node_count (plan_tree plan.now)) }
+    ensures regular { IfOk result (λ p. (S : List Table) → Regular S (plan_tree plan.now) → Regular S (plan_tree p)) }
 {
     let copy = plan.copy(alloc)?;
     into_placed(alloc, copy)

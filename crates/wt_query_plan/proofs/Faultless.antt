@@ -46,7 +46,7 @@ padded_alone P t says n (j ∷ js) (at ∷ ats) l e =
     here false true f e more = (each_of P t says (conjunct_columns j) f, more)
     here false false f e more = cc
 
-not_less : (n k : ℕ) → not (nat_lt k n) ≡ true → n ≤ k
+pub not_less : (n k : ℕ) → not (nat_lt k n) ≡ true → n ≤ k
 not_less n k e = here (nat_lt k n) refl e
   where
     here : (b : Bool) → nat_lt k n ≡ b → not b ≡ true → n ≤ k

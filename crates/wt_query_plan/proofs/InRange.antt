@@ -23,7 +23,7 @@ use Rattle.wt_plan.specs.Tree.{PlanTree}
 use Rattle.wt_plan.specs.Rows.{plan_rows}
 use Rattle.wt_plan.specs.Measures.{width}
 use Rattle.wt_query_plan.specs.Building.{free_of, Conjunct, keeps, is_in, conjunct_columns, conjuncts, all_conjuncts, kept_by, others_of, on_right, at_place, above, stacked, place_of, operand_of, pred_of, preds_of, places_of, planned, from_plan, listed, deduped, is_sole_star, has_right}
-use Rattle.wt_query_plan.specs.Faults.{name_fault, column_fault, columns_fault, scalar_fault, test_fault, tests_fault, query_fault, from_fault, joins_fault, filter_fault, cond_fault, conds_fault, kinds_of}
+use Rattle.wt_query_plan.specs.Faults.{first_of, name_fault, column_fault, columns_fault, scalar_fault, test_fault, tests_fault, query_fault, from_fault, joins_fault, filter_fault, cond_fault, conds_fault, kinds_of}
 use Rattle.wt_query_plan.specs.Standing.{RowsFit}
 use Rattle.wt_place.specs.Placing.{placed}
 use Rattle.wt_place.specs.Keeping.{Fits}

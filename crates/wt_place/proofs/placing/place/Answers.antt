@@ -10,6 +10,9 @@ use Rattle.wt_place.proofs.Fitting.{conditions_fit, all_fit, if_tree}
 use Rattle.wt_place.proofs.Measured.{cost_kept, nodes_kept}
 use Rattle.wt_place.proofs.NarrowKept.{width_placed}
 use Rattle.wt_place.proofs.PlaceLaw.{place_law}
+use Rattle.wt_place.proofs.Regularity.{regular_placed}
+use Rattle.wt_plan.specs.Regular.{Regular}
+use Rattle.wt_schema.specs.declared.schema.Table.{Table}
 use Rattle.wt_place.proofs.placing.place.Goals as goal
 
 pub into_placed-requires : goal.into_placed-requires
@@ -45,3 +48,9 @@ returns-clause-nodes c =
     let t = plan_tree c.args.plan.now in
     let is = subst (λ s. IfOk c.into_placed.result (λ p. plan_tree p ≡ placed s)) c.in_ok-copy.ensures.exact c.into_placed.ensures.placed in
     if_tree (placed t) (λ q. measures.node_count q ≡ measures.node_count t) c.into_placed.result is (nodes_kept t)
+
+pub returns-clause-regular : goal.returns-clause-regular
+returns-clause-regular c =
+    let t = plan_tree c.args.plan.now in
+    let is = subst (λ s. IfOk c.into_placed.result (λ p. plan_tree p ≡ placed s)) c.in_ok-copy.ensures.exact c.into_placed.ensures.placed in
+    if_tree (placed t) (λ q. (S : List Table) → Regular S t → Regular S q) c.into_placed.result is (λ S h. regular_placed S t h)

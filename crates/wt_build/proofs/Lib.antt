@@ -1,2 +1,0 @@
-pub mod Uptos
-pub mod Selects

@@ -1,6 +1,0 @@
-use Rattle.std.proofs.Common.{◌≡◌, ◌++◌}
-use Rattle.std.specs.Vec.Iter.{into_iter_items}
-use Rattle.wt_build.proofs.part.append.Given as goal
-
-abbrev pub invariant-loop-item : goal.invariant-loop-item
-invariant-loop-item T l = l.list.items ++ into_iter_items l.item-iterator ≡ l.fn.list.items ++ l.fn.more.items

@@ -1,0 +1,13 @@
+use Rattle.std.proofs.Common.{◌≡◌, ◌≤◌, map}
+use Rattle.std.specs.Vec.Iter.{into_iter_items}
+use Rattle.wt_bag.specs.Bags.{Each}
+use Rattle.wt_plan.specs.Tree.{plan_tree}
+use Rattle.wt_query_plan.specs.Building as spec
+use Rattle.wt_conjunct.specs.Views.{conjunct_trees}
+use Rattle.wt_conjunct.proofs.stack.stacked_right.Given as goal
+
+abbrev pub invariant-loop-conjunct : goal.invariant-loop-conjunct
+invariant-loop-conjunct l = record {
+  right : Each (λ j. Each (λ k. l.n ≤ k) (spec.conjunct_columns j)) (conjunct_trees (into_iter_items l.conjunct-iterator));
+  so_far : spec.stacked l.places (map (spec.on_right l.n) (conjunct_trees (into_iter_items l.conjunct-iterator))) (plan_tree l.plan) ≡ spec.stacked l.places (map (spec.on_right l.n) (conjunct_trees l.fn.conjuncts.items)) (plan_tree l.fn.plan);
+}

@@ -1,0 +1,5 @@
+pub mod Tree
+pub mod Measures
+pub mod Rows
+pub mod WellFormed
+pub mod Regular

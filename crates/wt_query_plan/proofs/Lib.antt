@@ -1,0 +1,10 @@
+pub mod Lookup
+pub mod Stacking
+pub mod Joining
+pub mod JoinSums
+pub mod Operands
+pub mod Selecting
+pub mod CommaLaw
+pub mod QueryLaw
+pub mod Faultless
+pub mod InRange

@@ -1,0 +1,4 @@
+pub mod Building
+pub mod Standing
+pub mod Faults
+pub mod Telling

@@ -1,0 +1,12 @@
+use Rattle.std.proofs.Common.{length, drop, ◌-◌, ◌≡◌, ◌≤◌, ◌+◌}
+use Rattle.wt_resolve.specs.Scoping.{named_at}
+use Rattle.wt_resolve.proofs.lookup.first_named.Given as goal
+
+abbrev pub invariant-names : goal.invariant-names
+invariant-names l = record {
+  within : l.i ≤ length l.names;
+  so_far : named_at l.names l.name ≡ l.i + named_at (drop l.i l.names) l.name;
+}
+
+abbrev pub decreases-names : goal.decreases-names
+decreases-names l = length l.names - l.i

@@ -40,12 +40,12 @@ fn are_filters_and_dedups(ops: Ops) -> bool
         && variants.in_sub == 0
 }
 
-fn built(command: wt_words::Command<'_>) -> Result<Command<'_>, UsageRefusal>
-    requires { words_spec.IsLimited command }
-    ensures reads { spec.Reads result (spec.built (words_spec.command_seen command)) }
+fn built<'a>(command: &wt_words::Command<'a>) -> Result<Command<'a>, UsageRefusal>
+    requires { words_spec.IsLimited command.now }
+    ensures reads { spec.Reads result (spec.built (words_spec.command_seen command.now)) }
     ensures searched { IfOk result spec.IsSearched }
 {
-    match command {
+    match *command {
         wt_words::Command::Discover { bounds, workers }
             if are_filters_and_dedups(bounds.ops) && workers == 1 => {
             Ok(Command::Discover(bounds))
@@ -69,7 +69,7 @@ pub(crate) fn read_words(words: &[String]) -> Result<Command<'_>, UsageRefusal>
     ensures searched { IfOk result spec.IsSearched }
 {
     match wt_words::read_words(words) {
-        Ok(command) => built(command),
+        Ok(command) => built(&command),
         Err(fault) => Err(UsageRefusal::Fault(fault)),
     }
 }

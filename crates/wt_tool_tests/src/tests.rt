@@ -168,8 +168,8 @@ fn refuses_statements(rt: HostRuntime) -> Result<(), Fail> {
     assert!(rt; rewrites(&rt, ORDERS, REFUSED, 4, REFUSED_LINES)?);
     for (queries, written) in [
         (
-            b"SELECT t.a FROM t WHERE t.a = 1;",
-            b"-- refused NotBuilt at 0\n",
+            b"SELECT t.a FROM t WHERE t.a = 1;".as_slice(),
+            b"-- refused NotBuilt at 0\n".as_slice(),
         ),
         (b" SELECT t.c FROM t;", b"-- refused NotBuilt at 1\n"),
         (b"SELECT u.a FROM t;", b"-- refused NotBuilt at 0\n"),
@@ -209,8 +209,8 @@ fn refuses_files(rt: HostRuntime) -> Result<(), Fail> {
     assert!(rt; rewrites(&rt, SCHEMA, b"\xff", 2, b"fault Q offset 0 NotText\n")?);
     for (schema, written) in [
         (
-            b"CREATE TABLE t (a INTEGER CHECK (a > 0));",
-            b"fault S offset 26 UnsupportedClause\n",
+            b"CREATE TABLE t (a INTEGER CHECK (a > 0));".as_slice(),
+            b"fault S offset 26 UnsupportedClause\n".as_slice(),
         ),
         (
             b"CREATE INDEX i ON t (a);",

@@ -70,6 +70,7 @@ fn words(alloc: Global, text: &str) -> io::Result<Vec<String>> {
 }
 
 /// A run, and what it must answer. A failing call is a number from 1, or 0 for none.
+#[derive(Clone, Copy)]
 struct Case<'a> {
     words: &'a str,
     schema: &'a [u8],

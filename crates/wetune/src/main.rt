@@ -1,6 +1,7 @@
 //! Finds rewrite rules for SQL and rewrites statements with them. It ends with the status of its command.
 #![tactic(auto)]
 
+use std::io::ErrorKind;
 use std::process::ExitCode;
 use std::rt::{Env, Files};
 use std::sync::Wait;
@@ -8,6 +9,9 @@ use std::thread::Threads;
 use std::{env, io};
 use wt_io::{FileStore, NoGate, StdoutSink};
 use wt_tool::wetune;
+
+/// The status of want of memory.
+const OUT_OF_MEMORY: u8 = 6;
 
 /// The status where the runtime refuses the words, or a copy of itself, before the command begins.
 const NOT_BEGUN: u8 = 7;
@@ -26,5 +30,9 @@ where
 }
 
 fn main(rt: HostRuntime) -> ExitCode {
-    ExitCode::from(run(&rt).unwrap_or(NOT_BEGUN))
+    match run(&rt) {
+        Ok(status) => ExitCode::from(status),
+        Err(error) if error.kind() == ErrorKind::OutOfMemory => ExitCode::from(OUT_OF_MEMORY),
+        Err(_) => ExitCode::from(NOT_BEGUN),
+    }
 }

@@ -1,7 +1,8 @@
 -- How many atoms a pair has.
-use Rattle.std.proofs.Common.{◌≡◌, ℕ, zero, suc, ◌+◌, ◌*◌, ◌≤◌, List, [], ◌∷◌, ◌++◌, map, length, Result, Ok, Err, refl, arith, length-append}
+use Rattle.std.proofs.Common.{◌≡◌, ℕ, zero, suc, ◌+◌, ◌*◌, ◌≤◌, List, [], ◌∷◌, ◌++◌, map, length, Result, Ok, Err, refl, inl, inr, arith, length-append}
 use Rattle.std.specs.Prelude.{IfOk}
 use Rattle.std.specs.Option.{option_map, option_to_list}
+use Rattle.std.proofs.lemmas.Bool.{cases_lt}
 use Rattle.std.proofs.lemmas.List.{length-map}
 use Rattle.wt_symbol.specs.Sides.{SideTree, input, proj, filtered, inner_join, left_join, in_sub, dedup, PairTree, leaves_of, lists_of, preds_of, size_of}
 use Rattle.wt_symbol.specs.Lawful.{IsLawful}
@@ -82,12 +83,46 @@ length-references (in_sub a s t) =
     )
 length-references (dedup s) = omega (arith, length-references s)
 
--- a source of at most three operators has at most 42 atoms
-pub length-atoms : (s : SideTree) → size_of s ≤ 3 → length (atoms_over s) ≤ 42
+-- a predicate takes an operator that brings no leaf
+preds-leaves : (s : SideTree) → length (preds_of s) + length (leaves_of s) ≤ 1 + size_of s
+preds-leaves (input r) = omega arith
+preds-leaves (proj a s) = omega (arith, preds-leaves s)
+preds-leaves (filtered p a s) = omega (arith, preds-leaves s)
+preds-leaves (inner_join a b s t) = omega (arith, preds-leaves s, preds-leaves t, length-append (preds_of s) (preds_of t), length-append (leaves_of s) (leaves_of t))
+preds-leaves (left_join a b s t) = omega (arith, preds-leaves s, preds-leaves t, length-append (preds_of s) (preds_of t), length-append (leaves_of s) (leaves_of t))
+preds-leaves (in_sub a s t) = omega (arith, preds-leaves s, preds-leaves t, length-append (preds_of s) (preds_of t), length-append (leaves_of s) (leaves_of t))
+preds-leaves (dedup s) = omega (arith, preds-leaves s)
+
+-- and only one list
+preds-lists : (s : SideTree) → length (preds_of s) + length (lists_of s) ≤ 2 * size_of s
+preds-lists (input r) = omega arith
+preds-lists (proj a s) = omega (arith, preds-lists s)
+preds-lists (filtered p a s) = omega (arith, preds-lists s)
+preds-lists (inner_join a b s t) = omega (arith, preds-lists s, preds-lists t, length-append (preds_of s) (preds_of t), length-append (lists_of s) (lists_of t))
+preds-lists (left_join a b s t) = omega (arith, preds-lists s, preds-lists t, length-append (preds_of s) (preds_of t), length-append (lists_of s) (lists_of t))
+preds-lists (in_sub a s t) = omega (arith, preds-lists s, preds-lists t, length-append (preds_of s) (preds_of t), length-append (lists_of s) (lists_of t))
+preds-lists (dedup s) = omega (arith, preds-lists s)
+
+-- the pairs of leaves, of lists and of predicates of a source of at most four operators
+pairs-le : (s : SideTree) → size_of s ≤ 4 → pairs_of (length (leaves_of s)) + pairs_of (length (lists_of s)) + pairs_of (length (preds_of s)) ≤ 38
+pairs-le s h =
+    elim (cases_lt 0 (length (preds_of s))) [
+      | inl some ↦
+          let leaves : pairs_of (length (leaves_of s)) ≤ 6 = pairs_of-le _ 4 (omega (arith, preds-leaves s)) in
+          let lists : pairs_of (length (lists_of s)) ≤ 21 = pairs_of-le _ 7 (omega (arith, preds-lists s)) in
+          let preds : pairs_of (length (preds_of s)) ≤ 6 = pairs_of-le _ 4 (omega (arith, length-preds s)) in
+          omega (arith, leaves, lists, preds)
+      | inr none ↦
+          let leaves : pairs_of (length (leaves_of s)) ≤ 10 = pairs_of-le _ 5 (omega (arith, length-leaves s)) in
+          let lists : pairs_of (length (lists_of s)) ≤ 28 = pairs_of-le _ 8 (omega (arith, length-lists s)) in
+          let preds : pairs_of (length (preds_of s)) ≤ 0 = pairs_of-le _ 0 (omega arith) in
+          omega (arith, leaves, lists, preds)
+    ]
+
+-- a source of at most four operators has at most 62 atoms
+pub length-atoms : (s : SideTree) → size_of s ≤ 4 → length (atoms_over s) ≤ 62
 length-atoms s h =
-    let leaves : pairs_of (length (leaves_of s)) ≤ 6 = pairs_of-le _ 4 (omega (arith, length-leaves s)) in
-    let lists : pairs_of (length (lists_of s)) ≤ 15 = pairs_of-le _ 6 (omega (arith, length-lists s)) in
-    let preds : pairs_of (length (preds_of s)) ≤ 3 = pairs_of-le _ 3 (omega (arith, length-preds s)) in
+    let pairs = pairs-le s h in
     let one = length-each_two Leaves (leaves_of s) in
     let two = length-each_two Lists (lists_of s) in
     let three = length-each_two Preds (preds_of s) in
@@ -95,7 +130,7 @@ length-atoms s h =
     let references = length-references s in
     let unique = length-map (key_lists_of s) Unique in
     let not_null = length-map (key_lists_of s) NotNull in
-    simp length-append (omega (arith, leaves, lists, preds, one, two, three, keys, references, unique, not_null))
+    simp length-append (omega (arith, pairs, one, two, three, keys, references, unique, not_null))
 
 pub few : (p : PairTree) → IsLawful p → length (atoms_of_pair p) ≤ 64
 few p lawful = omega (arith, length-atoms p.source (lawful_sizes p lawful).0)

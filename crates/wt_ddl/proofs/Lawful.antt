@@ -1,32 +1,36 @@
--- What is read of tables is lawful: names, columns and rules.
-use Rattle.std.proofs.Common.{◌≡◌, ◌≢◌, ℕ, zero, suc, ◌+◌, ◌-◌, ◌<◌, ◌≤◌, Bool, true, false, List, [], ◌∷◌, ◌++◌, length, drop, get_or, refl, ap, sym, ◌∙◌, subst, arith, length-append, Ok, Err}
-use Rattle.std.specs.Prelude.{nat_le, codes, ◌||◌}
+-- What is read of tables is lawful: names, columns and lists.
+use Rattle.std.proofs.Common.{◌≡◌, ◌≢◌, ℕ, zero, suc, ◌-◌, ◌<◌, ◌≤◌, Bool, true, false, List, [], ◌∷◌, ◌++◌, length, drop, get_or, refl, ap, sym, ◌∙◌, subst, arith, length-append, Ok, Err, Option}
+use Rattle.std.specs.Prelude.{map, nat_le, codes, ◌||◌}
 use Rattle.std.specs.List.{All, AllPairs}
 use Rattle.std.specs.Str.{IsUtf8, bytes_eq}
 use Rattle.std.proofs.lemmas.Bool.{cond_both}
 use Rattle.std.proofs.lemmas.Bool.Decides.{nat_tests}
-use Rattle.std.proofs.lemmas.List.Elements.{All-push, All-nil, All-weaker}
+use Rattle.std.proofs.lemmas.List.{drop-map}
+use Rattle.std.proofs.lemmas.List.Elements.{All-push, All-nil}
 use Rattle.std.proofs.lemmas.List.Quantifiers.{all_pairs_push}
 use Rattle.std.proofs.lemmas.Slice.Eq.{bytes_eq-Decides}
 use Rattle.std.proofs.lemmas.Str.{is_utf8-from_IsUtf8}
+use Rattle.wt_lex.specs.declared.token.Token.{Token}
 use Rattle.wt_lex.specs.declared.token.TokenKind.{TokenKind}
 use Rattle.wt_lex.specs.declared.token.TokenKind.TheVariants as kinds
-use Rattle.wt_lex.specs.Names.{IsNamed, name_bytes, spelled}
-use Rattle.wt_lex.specs.Sound.{AllStandIn}
-use Rattle.wt_lex.proofs.Naming.{name_stands}
-use Rattle.wt_schema.specs.declared.schema.ColKind.{ColKind}
+use Rattle.wt_lex.specs.declared.words.Word.{Word}
+use Rattle.wt_lex.specs.Names.{name_bytes, keyword}
+use Rattle.wt_lex.specs.Stored.{AllStandIn}
+use Rattle.wt_lex.proofs.Naming.{IsNamed, name_stands}
+use Rattle.wt_reading.specs.Lexemes.{Tokens, lexeme, kind_by, at, is_open, is_close, is_comma, is_name}
+use Rattle.wt_reading.specs.Readings.{plus, followed, repeat, onward, one_more, list, more, expect}
 use Rattle.wt_schema.specs.declared.schema.Column.{Column}
 use Rattle.wt_schema.specs.Lawful.{IsName}
-use Rattle.wt_ddl.specs.declared.draft.Named.{Named}
-use Rattle.wt_ddl.specs.declared.draft.ColumnList.{ColumnList}
-use Rattle.wt_ddl.specs.declared.draft.ColumnList.TheVariants as lists
-use Rattle.wt_ddl.specs.declared.draft.Rule.{Rule}
-use Rattle.wt_ddl.specs.declared.draft.Rule.TheVariants as rules
-use Rattle.wt_ddl.specs.declared.draft.Target.{Target}
-use Rattle.wt_ddl.specs.declared.draft.TableDraft.{TableDraft}
-use Rattle.wt_ddl.specs.Fronts.{Tokens, is_name, names_by, at_kind, is_open, is_close, is_comma, is_some_word, at_word}
+use Rattle.wt_ddl.specs.declared.syntax.Named.{Named}
+use Rattle.wt_ddl.specs.declared.syntax.ColumnPart.{ColumnPart}
+use Rattle.wt_ddl.specs.declared.syntax.TableRule.{TableRule}
+use Rattle.wt_ddl.specs.declared.syntax.TableRule.TheVariants as rules
+use Rattle.wt_ddl.specs.declared.syntax.Element.{Element}
+use Rattle.wt_ddl.specs.declared.syntax.Element.TheVariants as elements
+use Rattle.wt_ddl.specs.Fronts.{at_word}
 use Rattle.wt_ddl.specs.Reading as spec
-use Rattle.wt_ddl.specs.Reading.{Read, plus, followed, repeat, onward}
+use Rattle.wt_ddl.specs.Reading.{Read}
+use Rattle.wt_ddl.specs.Settling.{column_of, columns_of}
 
 -- ---- what holds of a value, where there is one
 
@@ -53,113 +57,77 @@ any_read (Err e) = tt
 pub read_behind : {A B : Type 0} (Q : B → Type 0) (ts : Tokens) (r : Read A) (f : A → Tokens → Read B) → ((a : A) (n : ℕ) → IfRead Q (f a (drop n ts))) → IfRead Q (followed ts r f)
 read_behind Q ts r f k = read_followed Any_value Q ts r f (any_read r) (λ a n h. k a n)
 
--- ---- tables as they are read, for any fact on names that holds of the names in these tokens
+pub read_one_more : {A : Type 0} (P : List A → Type 0) (part : List A → Tokens → Read A) (xs : List A) (ts : Tokens) → IfRead (λ x. P (xs ++ x ∷ [])) (part xs ts) → IfRead P (one_more part xs ts)
+unfolding one_more
+read_one_more P part xs ts h = read_followed (λ x. P (xs ++ x ∷ [])) P ts (part xs ts) _ h (λ x n k. k)
 
-abbrev pub IsListed : ℕ → ColumnList → Type 0
-IsListed width (lists.Own n) = n < width
-IsListed width (lists.Listed ns) = 1 ≤ length ns
+-- ---- elements, for any fact on names that holds of the names in these tokens
 
-abbrev pub IsRule : ℕ → Rule → Type 0
-IsRule width (rules.Key k) = IsListed width k.columns
-IsRule width (rules.Reference r) = IsListed width r.columns
+-- the lists of a rule are not empty
+abbrev pub IsListed : TableRule → Type 0
+IsListed (rules.PrimaryKey ns) = 1 ≤ length ns
+IsListed (rules.Unique ns) = 1 ≤ length ns
+IsListed (rules.ForeignKey ns target) = 1 ≤ length ns
 
-listed_more : (w : ℕ) (l : ColumnList) → IsListed w l → IsListed (w + 1) l
-listed_more w (lists.Own n) h = omega arith
-listed_more w (lists.Listed ns) h = h
+abbrev pub HasLists : Element → Type 0
+HasLists (elements.Column c) = Unit {0}
+HasLists (elements.Rule r) = IsListed r
 
-rule_more : (w : ℕ) (r : Rule) → IsRule w r → IsRule (w + 1) r
-rule_more w (rules.Key k) h = listed_more w k.columns h
-rule_more w (rules.Reference r) h = listed_more w r.columns h
+pub record AreElements (N : List ℕ → Type 0) (es : List Element) : Type 0 where
+  pub few : length (columns_of es) ≤ 64
+  pub named : All (λ c. N c.name) (columns_of es)
+  pub differ : AllPairs (λ a b. a.name ≢ b.name) (columns_of es)
+  pub listed : All HasLists es
 
--- a table so far, its rules over columns below `width`
-pub record IsDraft (T N : List ℕ → Type 0) (width : ℕ) (d : TableDraft) : Type 0 where
-  pub name : T d.name
-  pub few : length d.columns ≤ 64
-  pub named : All (λ c. N c.name) d.columns
-  pub differ : AllPairs (λ a b. a.name ≢ b.name) d.columns
-  pub ruled : All (IsRule width) d.rules
+columns_append : (es fs : List Element) → columns_of (es ++ fs) ≡ columns_of es ++ columns_of fs
+columns_append [] fs = refl
+columns_append (elements.Column c ∷ es) fs = ap (λ l. column_of c ∷ l) (columns_append es fs)
+columns_append (elements.Rule r ∷ es) fs = columns_append es fs
 
--- something was read of it
-abbrev pub IsBegun : TableDraft → Type 0
-IsBegun d = 1 ≤ length d.columns + length d.rules
+columns_rule : (es : List Element) (r : TableRule) → columns_of (es ++ elements.Rule r ∷ []) ≡ columns_of es
+columns_rule [] r = refl
+columns_rule (elements.Column c ∷ es) r = ap (λ l. column_of c ∷ l) (columns_rule es r)
+columns_rule (elements.Rule s ∷ es) r = columns_rule es r
 
-abbrev pub Whole : (List ℕ → Type 0) → (List ℕ → Type 0) → TableDraft → Type 0
-Whole T N d = IsDraft T N (length d.columns) d
+pub no_elements : (N : List ℕ → Type 0) → AreElements N []
+no_elements N = record { few = omega arith; named = All-nil (λ c. N c.name); differ = λ i j d l m. absurd (omega arith); listed = All-nil HasLists }
 
--- the table as it was before its columns' rules, with more rules
-abbrev pub Ruled : (List ℕ → Type 0) → (List ℕ → Type 0) → List Column → ℕ → TableDraft → Type 0
-Ruled T N columns width d = (d.columns ≡ columns) × IsDraft T N width d
-
-pub empty_law : (T N : List ℕ → Type 0) (name : List ℕ) → T name → Whole T N (spec.empty_draft name)
-empty_law T N name h = record {
-  name = h;
-  few = omega arith;
-  named = All-nil (λ c. N c.name);
-  differ = λ i j d l m. absurd (omega arith);
-  ruled = All-nil (IsRule 0);
-}
-
-with_rule_law : (T N : List ℕ → Type 0) (w : ℕ) (d : TableDraft) (r : Rule) → IsDraft T N w d → IsRule w r → IsDraft T N w (spec.with_rule d r)
-with_rule_law T N w d r h k = record { name = h.name; few = h.few; named = h.named; differ = h.differ; ruled = All-push (IsRule w) d.rules r h.ruled k }
-
-not_null_law : (T N : List ℕ → Type 0) (w : ℕ) (d : TableDraft) (b : Bool) → IsDraft T N w d → IsDraft T N w (spec.with_not_null d b)
-not_null_law T N w d b h = record { name = h.name; few = h.few; named = h.named; differ = h.differ; ruled = h.ruled }
-
-wider : (T N : List ℕ → Type 0) (w : ℕ) (d : TableDraft) → IsDraft T N w d → IsDraft T N (w + 1) d
-wider T N w d h = record { name = h.name; few = h.few; named = h.named; differ = h.differ; ruled = All-weaker (IsRule w) (IsRule (w + 1)) (rule_more w) d.rules h.ruled }
-
-rule_begins : (d : TableDraft) (r : Rule) → IsBegun (spec.with_rule d r)
-rule_begins d r = omega (arith, length-append d.rules (r ∷ []))
-
-with_key_ruled : (T N : List ℕ → Type 0) (columns : List Column) (w : ℕ) (d : TableDraft) (l : ColumnList) (primary : Bool) → Ruled T N columns w d → IsListed w l → Ruled T N columns w (spec.with_key d l primary)
-with_key_ruled T N columns w d l primary h k = (h.0, with_rule_law T N w d (rules.Key (record { columns = l; primary = primary })) h.1 k)
-
-with_reference_ruled : (T N : List ℕ → Type 0) (columns : List Column) (w : ℕ) (d : TableDraft) (l : ColumnList) (t : Target) → Ruled T N columns w d → IsListed w l → Ruled T N columns w (spec.with_reference d l t)
-with_reference_ruled T N columns w d l t h k = (h.0, with_rule_law T N w d (rules.Reference (record { columns = l; target = t })) h.1 k)
-
-not_null_ruled : (T N : List ℕ → Type 0) (columns : List Column) (w : ℕ) (d : TableDraft) (b : Bool) → Ruled T N columns w d → Ruled T N columns w (spec.with_not_null d b)
-not_null_ruled T N columns w d b h = (h.0, not_null_law T N w d b h.1)
-
-begun_ruled : (T N : List ℕ → Type 0) (d : TableDraft) → Whole T N d → Ruled T N d.columns (length d.columns + 1) (spec.with_not_null d false)
-begun_ruled T N d h = (refl, not_null_law T N (length d.columns + 1) d false (wider T N (length d.columns) d h))
-
-with_key_after : (T N : List ℕ → Type 0) (d : TableDraft) (l : ColumnList) (primary : Bool) → Whole T N d → IsListed (length d.columns) l → Whole T N (spec.with_key d l primary) × IsBegun (spec.with_key d l primary)
-with_key_after T N d l primary h k = (with_rule_law T N (length d.columns) d (rules.Key (record { columns = l; primary = primary })) h k, rule_begins d (rules.Key (record { columns = l; primary = primary })))
-
-with_reference_after : (T N : List ℕ → Type 0) (d : TableDraft) (l : ColumnList) (t : Target) → Whole T N d → IsListed (length d.columns) l → Whole T N (spec.with_reference d l t) × IsBegun (spec.with_reference d l t)
-with_reference_after T N d l t h k = (with_rule_law T N (length d.columns) d (rules.Reference (record { columns = l; target = t })) h k, rule_begins d (rules.Reference (record { columns = l; target = t })))
+with_rule : (N : List ℕ → Type 0) (es : List Element) (r : TableRule) → AreElements N es → IsListed r → AreElements N (es ++ elements.Rule r ∷ [])
+with_rule N es r h k =
+    let same = sym (columns_rule es r) in
+    record {
+      few = subst (λ (l : List Column). length l ≤ 64) same h.few;
+      named = subst (λ (l : List Column). All (λ c. N c.name) l) same h.named;
+      differ = subst (λ (l : List Column). AllPairs (λ a b. a.name ≢ b.name) l) same h.differ;
+      listed = All-push HasLists es (elements.Rule r) h.listed k;
+    }
 
 -- a name that no column has differs from each
-all_differ : (columns : List Column) (name : List ℕ) → spec.has_column columns name ≡ false → (k : ℕ) (c : Column) → k < length columns → (get_or columns k c).name ≢ name
+all_differ : (es : List Element) (name : List ℕ) → spec.has_column es name ≡ false → (k : ℕ) (c : Column) → k < length (columns_of es) → (get_or (columns_of es) k c).name ≢ name
 all_differ [] name h k c l = absurd (omega arith)
-all_differ (x ∷ xs) name h zero c l = λ e. by e (bytes_eq x.name name) refl h
+all_differ (elements.Rule r ∷ es) name h k c l = all_differ es name h k c l
+all_differ (elements.Column x ∷ es) name h zero c l = λ e. by e (bytes_eq x.name.name name) refl h
   where
-    by : x.name ≡ name → (t : Bool) → bytes_eq x.name name ≡ t → (t || spec.has_column xs name) ≡ false → ⊥
+    by : x.name.name ≡ name → (t : Bool) → bytes_eq x.name.name name ≡ t → (t || spec.has_column es name) ≡ false → ⊥
     by e true q g = absurd (cc)
-    by e false q g = let bad : bytes_eq x.name name ≡ true = (bytes_eq-Decides x.name name).1 e in cc
-all_differ (x ∷ xs) name h (suc k) c l = all_differ xs name (later (bytes_eq x.name name) h) k c (omega arith)
+    by e false q g = let bad : bytes_eq x.name.name name ≡ true = (bytes_eq-Decides x.name.name name).1 e in cc
+all_differ (elements.Column x ∷ es) name h (suc k) c l = all_differ es name (later (bytes_eq x.name.name name) h) k c (omega arith)
   where
-    later : (t : Bool) → (t || spec.has_column xs name) ≡ false → spec.has_column xs name ≡ false
+    later : (t : Bool) → (t || spec.has_column es name) ≡ false → spec.has_column es name ≡ false
     later true g = absurd (cc)
     later false g = g
 
-with_column_law : (T N : List ℕ → Type 0) (columns : List Column) (d : TableDraft) (name : List ℕ) (kind : ColKind) → N name → length columns < 64 → spec.has_column columns name ≡ false
-    → Ruled T N columns (length columns + 1) d → Whole T N (spec.with_column d name kind)
-with_column_law T N columns d name kind named few new (same, h) =
-    let one : length (d.columns ++ record { name = name; kind = kind; not_null = d.not_null } ∷ []) ≡ length columns + 1 =
-    omega (arith, length-append d.columns (record { name = name; kind = kind; not_null = d.not_null } ∷ []), ap length same) in
+with_column : (N : List ℕ → Type 0) (es : List Element) (c : ColumnPart) → AreElements N es → N c.name.name → spec.has_column es c.name.name ≡ false → length (columns_of es) < 64 → AreElements N (es ++ elements.Column c ∷ [])
+with_column N es c h named new few =
+    let same = sym (columns_append es (elements.Column c ∷ [])) in
     record {
-      name = h.name;
-      few = omega (arith, one);
-      named = All-push (λ c. N c.name) d.columns (record { name = name; kind = kind; not_null = d.not_null }) h.named named;
-      differ = all_pairs_push (λ a b. a.name ≢ b.name) d.columns (record { name = name; kind = kind; not_null = d.not_null }) h.differ (all_differ d.columns name (ap (λ l. spec.has_column l name) same ∙ new));
-      ruled = subst (λ w. All (IsRule w) d.rules) (sym one) h.ruled;
+      few = omega (arith, ap length same, few, length-append (columns_of es) (column_of c ∷ []));
+      named = subst (λ (l : List Column). All (λ c. N c.name) l) same (All-push (λ c. N c.name) (columns_of es) (column_of c) h.named named);
+      differ = subst (λ (l : List Column). AllPairs (λ a b. a.name ≢ b.name) l) same (all_pairs_push (λ a b. a.name ≢ b.name) (columns_of es) (column_of c) h.differ (all_differ es c.name.name new));
+      listed = All-push HasLists es (elements.Column c) h.listed tt;
     }
 
-column_begins : (d : TableDraft) (name : List ℕ) (kind : ColKind) → IsBegun (spec.with_column d name kind)
-column_begins d name kind = omega (arith, length-append d.columns (record { name = name; kind = kind; not_null = d.not_null } ∷ []))
-
-module _ (bytes : List ℕ) (T N : List ℕ → Type 0) (G : Tokens → Type 0) (G_drop : (n : ℕ) (ts : Tokens) → G ts → G (drop n ts)) (named : (ts : Tokens) → G ts → IfRead (λ n. N n.name) (spec.name bytes ts)) where
+module _ (bytes : List ℕ) (N : List ℕ → Type 0) (G : Tokens → Type 0) (G_drop : (n : ℕ) (ts : Tokens) → G ts → G (drop n ts)) (named : (ts : Tokens) → G ts → IfRead (λ n. N n.name) (spec.name bytes ts)) where
   pub read_repeat : {A : Type 0} (P : A → Type 0) (test : Tokens → Bool) (part : A → Tokens → Read A) → ((a : A) (ts : Tokens) → P a → G ts → IfRead P (part a ts))
       → (k : ℕ) (a : A) (ts : Tokens) → P a → G ts → IfRead P (repeat test part k a ts)
   unfolding repeat
@@ -172,156 +140,147 @@ module _ (bytes : List ℕ) (T N : List ℕ → Type 0) (G : Tokens → Type 0) 
       by (Ok x) hr next = read_plus P x.1 _ (next x.0 x.1 hr)
       by (Err e) hr next = tt
 
-  -- lists are not empty
-  next_name_law : (all : List Named) (ts : Tokens) → 1 ≤ length all → G ts → IfRead (λ l. 1 ≤ length l) (spec.next_name bytes all ts)
-  unfolding spec.next_name
-  next_name_law all ts h good =
-      let P : List Named → Type 0 = λ l. 1 ≤ length l in
-      read_plus P 1 _ (read_behind P (drop 1 ts) (spec.name bytes (drop 1 ts)) _ (λ n k. some n))
-    where
-      some : (n : Named) → 1 ≤ length (all ++ n ∷ [])
-      some n = omega (arith, length-append all (n ∷ []))
-
   abbrev Some_names : List Named → Type 0
   Some_names l = 1 ≤ length l
 
-  names_law : (ts : Tokens) → G ts → IfRead Some_names (spec.names bytes ts)
+  list_law : (ts : Tokens) → IfRead Some_names (list (spec.name bytes) ts)
+  unfolding list
+  list_law ts = read_behind Some_names ts (spec.name bytes ts) _ (λ x n. read_behind Some_names (drop n ts) (more is_comma (spec.name bytes) 0 (drop n ts)) _ (λ xs m. omega arith))
+
+  names_law : (ts : Tokens) → IfRead Some_names (spec.names bytes ts)
   unfolding spec.names
-  names_law ts good =
-      read_behind Some_names ts (spec.symbol bytes is_open ts) _ (λ u k.
-      read_behind Some_names (drop k ts) (spec.name bytes (drop k ts)) _ (λ n m.
-      let c = drop m (drop k ts) in
-      read_followed Some_names Some_names c (spec.more_names bytes (n ∷ []) c) _
-      (read_repeat Some_names (at_kind is_comma) (spec.next_name bytes) next_name_law 0 (n ∷ []) c (omega arith) (G_drop m (drop k ts) (G_drop k ts good)))
-      (λ all i h. read_behind Some_names (drop i c) (spec.symbol bytes is_close (drop i c)) _ (λ v j. h))))
-
-  -- ---- rules at a column
-
-  own_primary_law : (columns : List Column) (w own : ℕ) (d : TableDraft) (ts : Tokens) → own < w → Ruled T N columns w d → IfRead (Ruled T N columns w) (spec.own_primary bytes own d ts)
-  unfolding spec.own_primary
-  own_primary_law columns w own d ts l h =
-      read_plus (Ruled T N columns w) 1 _ (read_behind (Ruled T N columns w) (drop 1 ts) (spec.word bytes (codes "key") (drop 1 ts)) _ (λ u k.
-      cond_both (spec.has_primary d) _ _ (IfRead (Ruled T N columns w)) (λ _. tt) (λ _. with_key_ruled T N columns w d (lists.Own own) true h l)))
-
-  own_reference_law : (columns : List Column) (w own : ℕ) (d : TableDraft) (ts : Tokens) → own < w → Ruled T N columns w d → IfRead (Ruled T N columns w) (spec.own_reference bytes own d ts)
-  unfolding spec.own_reference
-  own_reference_law columns w own d ts l h =
-      read_plus (Ruled T N columns w) 1 _ (read_behind (Ruled T N columns w) (drop 1 ts) (spec.target bytes (drop 1 ts)) _ (λ t k. with_reference_ruled T N columns w d (lists.Own own) t h l))
-
-  bare_rule_law : (columns : List Column) (w own : ℕ) (d : TableDraft) (ts : Tokens) → own < w → Ruled T N columns w d → IfRead (Ruled T N columns w) (spec.bare_rule bytes own d ts)
-  unfolding spec.bare_rule
-  bare_rule_law columns w own d ts l h =
-      let P = IfRead (Ruled T N columns w) in
-      cond_both (at_word bytes (codes "not") ts) _ _ P (λ _. read_plus (Ruled T N columns w) 1 _ (read_behind (Ruled T N columns w) (drop 1 ts) (spec.word bytes (codes "null") (drop 1 ts)) _ (λ u k. not_null_ruled T N columns w d true h)))
-      (λ _. cond_both (at_word bytes (codes "null") ts) _ _ P (λ _. h)
-      (λ _. cond_both (at_word bytes (codes "primary") ts) _ _ P (λ _. own_primary_law columns w own d ts l h)
-      (λ _. cond_both (at_word bytes (codes "unique") ts) _ _ P (λ _. with_key_ruled T N columns w d (lists.Own own) false h l)
-      (λ _. cond_both (at_word bytes (codes "references") ts) _ _ P (λ _. own_reference_law columns w own d ts l h)
-      (λ _. cond_both (at_kind is_some_word ts) _ _ P (λ _. tt) (λ _. tt))))))
-
-  rule_law : (columns : List Column) (w own : ℕ) (l : own < w) (d : TableDraft) (ts : Tokens) → Ruled T N columns w d → G ts → IfRead (Ruled T N columns w) (spec.rule bytes own d ts)
-  unfolding spec.rule
-  rule_law columns w own l d ts h good =
-      cond_both (at_word bytes (codes "constraint") ts) _ _ (IfRead (Ruled T N columns w))
-      (λ _. read_plus (Ruled T N columns w) 1 _ (read_behind (Ruled T N columns w) (drop 1 ts) (spec.name bytes (drop 1 ts)) _ (λ n k. bare_rule_law columns w own d (drop k (drop 1 ts)) l h)))
-      (λ _. bare_rule_law columns w own d ts l h)
+  names_law ts =
+      cond_both (at is_open ts) _ _ (IfRead Some_names)
+      (λ _. read_plus Some_names 1 _ (read_followed Some_names Some_names (drop 1 ts) (list (spec.name bytes) (drop 1 ts)) _ (list_law (drop 1 ts))
+      (λ x n k. read_behind Some_names (drop n (drop 1 ts)) (expect (at is_close) (spec.syntax bytes) (drop n (drop 1 ts))) _ (λ u m. k))))
+      (λ _. tt)
 
   -- ---- columns
 
-  abbrev pub After : TableDraft → Type 0
-  After d = Whole T N d × IsBegun d
+  -- the name of a column that may stand behind these elements
+  abbrev IsNew : List Element → Named → Type 0
+  IsNew es n = N n.name × (spec.has_column es n.name ≡ false) × (length (columns_of es) < 64)
 
-  column_law : (d : TableDraft) (ts : Tokens) → Whole T N d → G ts → IfRead After (spec.column bytes d ts)
+  column_name_law : (es : List Element) (ts : Tokens) → G ts → IfRead (IsNew es) (spec.column_name bytes es ts)
+  unfolding spec.column_name
+  column_name_law es ts good =
+      read_followed (λ n. N n.name) (IsNew es) ts (spec.name bytes ts) _ (named ts good) (λ n k is.
+      cond_both (spec.has_column es n.name) _ _ (IfRead (IsNew es)) (λ _. tt)
+      (λ new. cond_both (nat_le 64 (length (columns_of es))) _ _ (IfRead (IsNew es)) (λ _. tt)
+      (λ small. let few : length (columns_of es) < 64 = grind (arith, nat_tests) in (is, new, few))))
+
+  column_law : (es : List Element) (ts : Tokens) → AreElements N es → G ts → IfRead (λ c. AreElements N (es ++ elements.Column c ∷ [])) (spec.column bytes es ts)
   unfolding spec.column
-  column_law d ts h good =
-      read_followed (λ n. N n.name) After ts (spec.name bytes ts) _ (named ts good) (λ n k is.
-      cond_both (spec.has_column d.columns n.name) _ _ (IfRead After) (λ _. tt)
-      (λ new. cond_both (nat_le 64 (length d.columns)) _ _ (IfRead After) (λ _. tt)
-      (λ small. read_behind After (drop k ts) (spec.kind bytes (drop k ts)) _ (λ kind m.
-      read_followed (Ruled T N d.columns (length d.columns + 1)) After (drop m (drop k ts)) (spec.column_rules bytes (length d.columns) (spec.with_not_null d false) (drop m (drop k ts))) _
-      (read_repeat (Ruled T N d.columns (length d.columns + 1)) (at_kind is_some_word) (spec.rule bytes (length d.columns)) (rule_law d.columns (length d.columns + 1) (length d.columns) (omega arith)) 0
-      (spec.with_not_null d false) (drop m (drop k ts)) (begun_ruled T N d h) (G_drop m (drop k ts) (G_drop k ts good)))
-      (λ e i r. let few : length d.columns < 64 = grind (arith, nat_tests) in
-      (with_column_law T N d.columns e n.name kind is few new r, column_begins e n.name kind))))))
+  column_law es ts h good =
+      let P : ColumnPart → Type 0 = λ c. AreElements N (es ++ elements.Column c ∷ []) in
+      read_followed (IsNew es) P ts (spec.column_name bytes es ts) _ (column_name_law es ts good) (λ n k is.
+      read_behind P (drop k ts) (spec.kind_of bytes (drop k ts)) _ (λ kind m.
+      read_behind P (drop m (drop k ts)) (spec.column_rules bytes es (drop m (drop k ts))) _ (λ rs i.
+      with_column N es (record { name = n; kind = kind; rules = rs }) h is.0 is.1 is.2)))
 
   -- ---- rules of a table
 
-  primary_rule_law : (d : TableDraft) (ts : Tokens) → Whole T N d → G ts → IfRead After (spec.primary_rule bytes d ts)
+  primary_rule_law : (es : List Element) (ts : Tokens) → IfRead IsListed (spec.primary_rule bytes es ts)
   unfolding spec.primary_rule
-  primary_rule_law d ts h good =
-      read_plus After 1 _ (read_behind After (drop 1 ts) (spec.word bytes (codes "key") (drop 1 ts)) _ (λ u k.
-      cond_both (spec.has_primary d) _ _ (IfRead After) (λ _. tt)
-      (λ _. read_followed Some_names After (drop k (drop 1 ts)) (spec.names bytes (drop k (drop 1 ts))) _ (names_law (drop k (drop 1 ts)) (G_drop k (drop 1 ts) (G_drop 1 ts good)))
-      (λ all m some. with_key_after T N d (lists.Listed all) true h some))))
+  primary_rule_law es ts =
+      read_plus IsListed 1 _ (read_behind IsListed (drop 1 ts) (spec.word bytes (codes "key") (drop 1 ts)) _ (λ u k.
+      cond_both (spec.has_primary es) _ _ (IfRead IsListed) (λ _. tt)
+      (λ _. read_followed Some_names IsListed (drop k (drop 1 ts)) (spec.names bytes (drop k (drop 1 ts))) _ (names_law (drop k (drop 1 ts))) (λ all m some. some))))
 
-  unique_rule_law : (d : TableDraft) (ts : Tokens) → Whole T N d → G ts → IfRead After (spec.unique_rule bytes d ts)
+  unique_rule_law : (ts : Tokens) → IfRead IsListed (spec.unique_rule bytes ts)
   unfolding spec.unique_rule
-  unique_rule_law d ts h good =
-      read_plus After 1 _ (read_followed Some_names After (drop 1 ts) (spec.names bytes (drop 1 ts)) _ (names_law (drop 1 ts) (G_drop 1 ts good))
-      (λ all m some. with_key_after T N d (lists.Listed all) false h some))
+  unique_rule_law ts = read_plus IsListed 1 _ (read_followed Some_names IsListed (drop 1 ts) (spec.names bytes (drop 1 ts)) _ (names_law (drop 1 ts)) (λ all m some. some))
 
-  foreign_rule_law : (d : TableDraft) (ts : Tokens) → Whole T N d → G ts → IfRead After (spec.foreign_rule bytes d ts)
+  foreign_rule_law : (ts : Tokens) → IfRead IsListed (spec.foreign_rule bytes ts)
   unfolding spec.foreign_rule
-  foreign_rule_law d ts h good =
+  foreign_rule_law ts =
       let a = drop 1 ts in
-      read_plus After 1 _ (read_behind After a (spec.word bytes (codes "key") a) _ (λ u k.
+      read_plus IsListed 1 _ (read_behind IsListed a (spec.word bytes (codes "key") a) _ (λ u k.
       let b = drop k a in
-      read_followed Some_names After b (spec.names bytes b) _ (names_law b (G_drop k a (G_drop 1 ts good))) (λ all m some.
-      let c = drop m b in
-      read_behind After c (spec.word bytes (codes "references") c) _ (λ v i.
-      let e = drop i c in
-      read_behind After e (spec.target bytes e) _ (λ t j.
-      read_behind After (drop j e) (spec.behind_target bytes (drop j e)) _ (λ x y.
-      with_reference_after T N d (lists.Listed all) t h some))))))
+      read_followed Some_names IsListed b (spec.names bytes b) _ (names_law b) (λ all m some.
+      read_behind IsListed (drop m b) (spec.foreign_target bytes (drop m b)) _ (λ t i. some))))
 
-  table_rule_law : (d : TableDraft) (ts : Tokens) → Whole T N d → G ts → IfRead After (spec.table_rule bytes d ts)
+  table_rule_law : (es : List Element) (ts : Tokens) → IfRead IsListed (spec.table_rule bytes es ts)
   unfolding spec.table_rule
-  table_rule_law d ts h good =
-      cond_both (at_word bytes (codes "primary") ts) _ _ (IfRead After) (λ _. primary_rule_law d ts h good) (λ _. cond_both (at_word bytes (codes "unique") ts) _ _ (IfRead After) (λ _. unique_rule_law d ts h good) (λ _. foreign_rule_law d ts h good))
+  table_rule_law es ts =
+      cond_both (at_word bytes (codes "primary") ts) _ _ (IfRead IsListed) (λ _. primary_rule_law es ts) (λ _. cond_both (at_word bytes (codes "unique") ts) _ _ (IfRead IsListed) (λ _. unique_rule_law ts) (λ _. foreign_rule_law ts))
 
-  named_rule_law : (d : TableDraft) (ts : Tokens) → Whole T N d → G ts → IfRead After (spec.named_rule bytes d ts)
+  named_rule_law : (es : List Element) (ts : Tokens) → IfRead IsListed (spec.named_rule bytes es ts)
   unfolding spec.named_rule
-  named_rule_law d ts h good =
-      cond_both (at_word bytes (codes "check") ts) _ _ (IfRead After) (λ _. tt) (λ _. cond_both (spec.at_table_rule bytes ts) _ _ (IfRead After) (λ _. table_rule_law d ts h good) (λ _. tt))
+  named_rule_law es ts =
+      cond_both (at_word bytes (codes "check") ts) _ _ (IfRead IsListed) (λ _. tt) (λ _. cond_both (spec.at_table_rule bytes ts) _ _ (IfRead IsListed) (λ _. table_rule_law es ts) (λ _. tt))
 
-  pub element_law : (d : TableDraft) (ts : Tokens) → Whole T N d → G ts → IfRead After (spec.element bytes d ts)
+  pub element_law : (es : List Element) (ts : Tokens) → AreElements N es → G ts → IfRead (λ e. AreElements N (es ++ e ∷ [])) (spec.element bytes es ts)
   unfolding spec.element
-  element_law d ts h good =
-      cond_both (at_word bytes (codes "constraint") ts) _ _ (IfRead After)
-      (λ _. read_plus After 1 _ (read_behind After (drop 1 ts) (spec.name bytes (drop 1 ts)) _ (λ n k. named_rule_law d (drop k (drop 1 ts)) h (G_drop k (drop 1 ts) (G_drop 1 ts good)))))
-      (λ _. cond_both (at_word bytes (codes "check") ts) _ _ (IfRead After) (λ _. tt)
-      (λ _. cond_both (spec.at_table_rule bytes ts) _ _ (IfRead After) (λ _. table_rule_law d ts h good) (λ _. column_law d ts h good)))
+  element_law es ts h good =
+      let P : Element → Type 0 = λ e. AreElements N (es ++ e ∷ []) in
+      cond_both (at_word bytes (codes "constraint") ts) _ _ (IfRead P)
+      (λ _. read_plus P 1 _ (read_behind P (drop 1 ts) (spec.name bytes (drop 1 ts)) _ (λ n k.
+      let a = drop k (drop 1 ts) in
+      read_followed IsListed P a (spec.named_rule bytes es a) _ (named_rule_law es a) (λ r m is. with_rule N es r h is))))
+      (λ _. cond_both (at_word bytes (codes "check") ts) _ _ (IfRead P) (λ _. tt)
+      (λ _. cond_both (spec.at_table_rule bytes ts) _ _ (IfRead P)
+      (λ _. read_followed IsListed P ts (spec.table_rule bytes es ts) _ (table_rule_law es ts) (λ r m is. with_rule N es r h is))
+      (λ _. read_followed (λ c. AreElements N (es ++ elements.Column c ∷ [])) P ts (spec.column bytes es ts) _ (column_law es ts h good) (λ c m is. is))))
 
-  next_element_law : (d : TableDraft) (ts : Tokens) → After d → G ts → IfRead After (spec.next_element bytes d ts)
+  next_element_law : (es : List Element) (ts : Tokens) → AreElements N es → G ts → IfRead (λ e. AreElements N (es ++ e ∷ [])) (spec.next_element bytes es ts)
   unfolding spec.next_element
-  next_element_law d ts h good = read_plus After 1 _ (element_law d (drop 1 ts) h.0 (G_drop 1 ts good))
+  next_element_law es ts h good = read_plus (λ e. AreElements N (es ++ e ∷ [])) 1 (spec.element bytes es (drop 1 ts)) (element_law es (drop 1 ts) h (G_drop 1 ts good))
 
-  pub more_elements_law : (d : TableDraft) (ts : Tokens) → After d → G ts → IfRead After (spec.more_elements bytes d ts)
-  more_elements_law d ts h good = read_repeat After (at_kind is_comma) (spec.next_element bytes) next_element_law 0 d ts h good
+  -- elements, and one of them at least
+  abbrev pub Begun : List Element → Type 0
+  Begun es = AreElements N es × (1 ≤ length es)
+
+  pub elements_law : (ts : Tokens) → G ts → IfRead Begun (spec.elements_of bytes ts)
+  unfolding spec.elements_of
+  elements_law ts good =
+      read_behind Begun ts (spec.symbol bytes is_open ts) _ (λ u k.
+      let a = drop k ts in
+      read_followed (λ e. AreElements N ([] ++ e ∷ [])) Begun a (spec.element bytes [] a) _ (element_law [] a (no_elements N) (G_drop k ts good)) (λ e m first.
+      let b = drop m a in
+      read_followed Begun Begun b (spec.more_elements bytes (e ∷ []) b) _
+      (read_repeat Begun (at is_comma) (one_more (spec.next_element bytes)) (λ es l h g. read_one_more Begun (spec.next_element bytes) es l (one es l h g)) 0 (e ∷ []) b (first, omega arith) (G_drop m a (G_drop k ts good))) (λ es i all.
+      read_behind Begun (drop i b) (spec.symbol bytes is_close (drop i b)) _ (λ v j. all))))
+    where
+      some : (es : List Element) (r : Read Element) → IfRead (λ e. AreElements N (es ++ e ∷ [])) r → IfRead (λ e. Begun (es ++ e ∷ [])) r
+      some es (Ok x) h = (h, omega (arith, length-append es (x.0 ∷ [])))
+      some es (Err f) h = tt
+
+      one : (es : List Element) (l : Tokens) → Begun es → G l → IfRead (λ e. Begun (es ++ e ∷ [])) (spec.next_element bytes es l)
+      one es l h g = some es (spec.next_element bytes es l) (next_element_law es l h.0 g)
 
 -- ---- tokens that stand in a text
 
+abbrev pub Stand : List ℕ → Tokens → Type 0
+Stand bytes ts = (us : List Token) × (ts ≡ map (lexeme bytes) us) × AllStandIn bytes us
+
+stand_drop : (bytes : List ℕ) (n : ℕ) (us : List Token) → AllStandIn bytes us → AllStandIn bytes (drop n us)
+stand_drop bytes zero us h = h
+stand_drop bytes (suc n) [] h = h
+stand_drop bytes (suc n) (t ∷ us) h = stand_drop bytes n us h.1
+
+named_kind : (k : TokenKind) (w : Option Word) → is_name (kind_by k w) ≡ true → IsNamed k
+named_kind kinds.Word w h = tt
+named_kind kinds.Quoted w h = tt
+named_kind (kinds.Number n) w h = absurd (cc)
+named_kind kinds.Text w h = absurd (cc)
+named_kind (kinds.Symbol x) w h = absurd (cc)
+named_kind (kinds.Odd f) w h = absurd (cc)
+
 module _ (bytes : List ℕ) (text : IsUtf8 bytes) where
-  pub good_drop : (n : ℕ) (ts : Tokens) → AllStandIn bytes ts → AllStandIn bytes (drop n ts)
-  good_drop zero ts h = h
-  good_drop (suc n) [] h = h
-  good_drop (suc n) (t ∷ ts) h = good_drop n ts h.1
+  pub good_drop : (n : ℕ) (ts : Tokens) → Stand bytes ts → Stand bytes (drop n ts)
+  good_drop n ts (us, e, h) = (drop n us, ap (drop n) e ∙ drop-map (lexeme bytes) n us, stand_drop bytes n us h)
 
-  named_kind : (k : TokenKind) (s : List ℕ) → names_by k s ≡ true → IsNamed k
-  named_kind kinds.Word s h = tt
-  named_kind kinds.Quoted s h = tt
-  named_kind (kinds.Number n) s h = absurd (cc)
-  named_kind kinds.Text s h = absurd (cc)
-  named_kind (kinds.Symbol x) s h = absurd (cc)
-  named_kind (kinds.Odd f) s h = absurd (cc)
-
-  pub name_law : (ts : Tokens) → AllStandIn bytes ts → IfRead (λ n. IsName n.name) (spec.name bytes ts)
-  unfolding spec.name
-  name_law [] good = tt
-  name_law (t ∷ ts) good =
-      cond_both (is_name bytes t) _ _ (IfRead (λ n. IsName n.name))
-      (λ h. let is = name_stands bytes t text good.0 (named_kind t.kind (spelled bytes t) h) in (is_utf8-from_IsUtf8 (name_bytes bytes t) is.0, is.1))
+  by_tokens : (us : List Token) → AllStandIn bytes us → IfRead (λ n. IsName n.name) (spec.name bytes (map (lexeme bytes) us))
+  unfolding spec.name lexeme
+  by_tokens [] h = tt
+  by_tokens (t ∷ us) h =
+      cond_both (is_name (kind_by t.kind (keyword bytes t))) _ _ (IfRead (λ n. IsName n.name))
+      (λ k. let is = name_stands bytes t text h.0 (named_kind t.kind (keyword bytes t) k) in (is_utf8-from_IsUtf8 (name_bytes bytes t) is.0, is.1))
       (λ _. tt)
+
+  pub name_law : (ts : Tokens) → Stand bytes ts → IfRead (λ n. IsName n.name) (spec.name bytes ts)
+  name_law ts (us, e, h) = subst (λ l. IfRead (λ n. IsName n.name) (spec.name bytes l)) (sym e) (by_tokens us h)
 
 -- ---- what was read
 
@@ -338,8 +297,7 @@ pub no_names : (bytes : List ℕ) (ts : Tokens) → IfRead (λ n. No_fact n.name
 no_names bytes ts = any_read (spec.name bytes ts)
 
 -- a table has at most 64 columns
-pub few_columns : (bytes name : List ℕ) (d e : TableDraft) (ts us : Tokens) (n m : ℕ) → spec.element bytes (spec.empty_draft name) ts ≡ Ok (d, n) → spec.more_elements bytes d us ≡ Ok (e, m) → length e.columns ≤ 64
-few_columns bytes name d e ts us n m h k =
-    let first : Whole No_fact No_fact d × IsBegun d = read_is _ _ d n (element_law bytes No_fact No_fact No_claim (λ i l g. tt) (λ l g. no_names bytes l) (spec.empty_draft name) ts (empty_law No_fact No_fact name tt) tt) h in
-    let all : Whole No_fact No_fact e × IsBegun e = read_is _ _ e m (more_elements_law bytes No_fact No_fact No_claim (λ i l g. tt) (λ l g. no_names bytes l) d us first tt) k in
+pub few_columns : (bytes : List ℕ) (es : List Element) (ts : Tokens) (n : ℕ) → spec.elements_of bytes ts ≡ Ok (es, n) → length (columns_of es) ≤ 64
+few_columns bytes es ts n h =
+    let all : AreElements No_fact es × (1 ≤ length es) = read_is _ _ es n (elements_law bytes No_fact No_claim (λ i l g. tt) (λ l g. no_names bytes l) ts tt) h in
     all.0.few

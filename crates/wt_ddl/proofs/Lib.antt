@@ -1,11 +1,15 @@
 pub mod Closed
 pub mod Created
-pub mod Firsts
 pub mod Lawful
 pub mod Linked
 pub mod LinkedUp
+pub mod Marks
+pub mod Odds
+pub mod Placing
+pub mod Repeated
 pub mod Repeats
 pub mod Schemed
+pub mod Sentences
 pub mod Settled
 pub mod Sound
 pub mod Turns

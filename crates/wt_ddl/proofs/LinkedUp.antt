@@ -1,7 +1,7 @@
 -- Tables with their references are a schema.
-use Rattle.std.proofs.Common.{◌≡◌, ◌≢◌, ℕ, zero, suc, ◌+◌, ◌<◌, ◌≤◌, true, List, [], ◌∷◌, ◌++◌, length, refl, ap, sym, subst, arith, length-append, append-nil, append_assoc, Option, Some, None, Result, Ok, Err}
+use Rattle.std.proofs.Common.{◌≡◌, ◌≢◌, ℕ, zero, suc, ◌+◌, ◌<◌, ◌≤◌, true, List, [], ◌∷◌, ◌++◌, length, refl, ap, sym, subst, arith, length-append, append-nil, append_assoc, Option, Some, None, Ok, Err}
 use Rattle.std.specs.Prelude.{slice_get, ◌==◌}
-use Rattle.std.specs.List.{All, AllPairs, list_any}
+use Rattle.std.specs.List.{All, AllPairs, list_any, find}
 use Rattle.std.proofs.lemmas.Bool.{cond_both}
 use Rattle.std.proofs.lemmas.Bool.Decides.{nat_tests}
 use Rattle.std.proofs.lemmas.List.Elements.{All-push, All-nil, All-cons, All-head, All-tail}
@@ -10,13 +10,16 @@ use Rattle.wt_schema.specs.declared.schema.Column.{Column}
 use Rattle.wt_schema.specs.declared.schema.Reference.{Reference}
 use Rattle.wt_schema.specs.declared.schema.Table.{Table}
 use Rattle.wt_schema.specs.Lawful.{IsName, IsReference, IsTable, IsSchema, width_of}
-use Rattle.wt_ddl.specs.declared.fault.DdlError.{DdlError}
-use Rattle.wt_ddl.specs.declared.draft.Named.{Named}
-use Rattle.wt_ddl.specs.declared.draft.OpenReference.{OpenReference}
-use Rattle.wt_ddl.specs.declared.draft.TableRead.{TableRead}
-use Rattle.wt_ddl.specs.Settling.{in_turn, column_number}
-use Rattle.wt_ddl.specs.Linking.{table_number, found, find_one, has_exactly, same_kinds, primary_target, named_target, target_columns, linked_at, linked_by, linked, link_one, link_table, with_links, all_with_links, linked_tables}
-use Rattle.wt_ddl.proofs.Closed.{IfDone, done_chain, IfFound, position_within, Within, IsOpen, IsPrimary, IsClosed}
+use Rattle.wt_schema.specs.declared.schema.Key.{Key}
+use Rattle.wt_schema.specs.Lawful.{IsKey}
+use Rattle.wt_schema.specs.Lookup.{column_number}
+use Rattle.wt_ddl.specs.declared.syntax.Named.{Named}
+use Rattle.wt_ddl.specs.declared.table.OpenReference.{OpenReference}
+use Rattle.wt_ddl.specs.declared.table.TableRead.{TableRead}
+use Rattle.wt_ddl.specs.Refusals.{Checked}
+use Rattle.wt_ddl.specs.Settling.{in_turn}
+use Rattle.wt_ddl.specs.Linking.{table_number, found, find_one, has_exactly, same_kinds, of_width, named_target, target_columns, linked_at, linked_by, linked, link_one, link_table, with_links, all_with_links, linked_tables}
+use Rattle.wt_ddl.proofs.Closed.{IfDone, done_chain, IfFound, position_within, Within, IsOpen, IsClosed}
 use Rattle.wt_ddl.proofs.Created.{AreTables}
 
 -- ---- the columns of a target
@@ -36,7 +39,7 @@ found_law columns (n ∷ ns) seen h =
     (find_one columns seen n) (λ more. in_turn (find_one columns) more ns) (find_one_law columns seen n h)
     (λ more k. longer more k (in_turn (find_one columns) more ns) (found_law columns ns more k.0))
   where
-    longer : (more : List ℕ) → Within (length columns) more × (length more ≡ length seen + 1) → (r : Result (List ℕ) DdlError) → IfDone (λ all. Within (length columns) all × (length all ≡ length more + length ns)) r
+    longer : (more : List ℕ) → Within (length columns) more × (length more ≡ length seen + 1) → (r : Checked (List ℕ)) → IfDone (λ all. Within (length columns) all × (length all ≡ length more + length ns)) r
         → IfDone (λ all. Within (length columns) all × (length all ≡ length seen + length (n ∷ ns))) r
     longer more k (Ok all) x = (x.0, omega (arith, x.1, k.1))
     longer more k (Err e) x = tt
@@ -47,10 +50,12 @@ OfWidth columns width ns = Within columns ns × (length ns ≡ width)
 same_number : (a b : ℕ) → (a == b) ≡ true → a ≡ b
 same_number a b h = grind (arith, nat_tests)
 
-primary_law : (columns width at : ℕ) (primary : Option (List ℕ)) → IsPrimary columns primary → IfDone (OfWidth columns width) (primary_target primary width at)
-primary_law columns width at None h = tt
-primary_law columns width at (Some ns) h =
-    cond_both (length ns == width) _ _ (IfDone (OfWidth columns width)) (λ e. (h, same_number (length ns) width e)) (λ _. tt)
+find_law : (columns : ℕ) (keys : List Key) → All (IsKey columns) keys → (width at : ℕ) → IfDone (OfWidth columns width) (of_width (find (λ k. k.primary) keys) width at)
+find_law columns [] h width at = tt
+find_law columns (k ∷ ks) h width at =
+    cond_both k.primary (Some k) (find (λ k. k.primary) ks) (λ o. IfDone (OfWidth columns width) (of_width o width at))
+    (λ _. cond_both (length k.columns == width) _ _ (IfDone (OfWidth columns width)) (λ e. ((All-head (IsKey columns) k ks h).within, same_number (length k.columns) width e)) (λ _. tt))
+    (λ _. find_law columns ks (All-tail (IsKey columns) k ks h) width at)
 
 named_law : (t : TableRead) (ns : List Named) (width at : ℕ) → IfDone (OfWidth (length t.columns) width) (named_target t ns width at)
 named_law t ns width at =
@@ -60,8 +65,8 @@ named_law t ns width at =
     (λ all x. cond_both (list_any (has_exactly all) t.keys) _ _ (IfDone (OfWidth (length t.columns) width)) (λ _. (x.0, omega (arith, x.1, same_number (length ns) width e))) (λ _. tt)))
     (λ _. tt)
 
-target_law : (t : TableRead) (ns : Option (List Named)) (width at : ℕ) → IsPrimary (length t.columns) t.primary → IfDone (OfWidth (length t.columns) width) (target_columns t ns width at)
-target_law t None width at h = primary_law (length t.columns) width at t.primary h
+target_law : (t : TableRead) (ns : Option (List Named)) (width at : ℕ) → All (IsKey (length t.columns)) t.keys → IfDone (OfWidth (length t.columns) width) (target_columns t ns width at)
+target_law t None width at h = find_law (length t.columns) t.keys h width at
 target_law t (Some ns) width at h = named_law t ns width at
 
 -- ---- one reference
@@ -97,7 +102,7 @@ linked_law N tables columns r h is = by (table_number tables r.target.table.name
     at_table n (Some t) e =
         let (l, w, c) = place_of N tables n t h e in
         done_chain (OfWidth (length t.columns) (length r.columns)) (IsLinked tables (length columns)) (target_columns t r.target.columns (length r.columns) r.target.table.at) _
-        (target_law t r.target.columns (length r.columns) r.target.table.at c.primary)
+        (target_law t r.target.columns (length r.columns) r.target.table.at c.keys)
         (λ there x. cond_both (same_kinds columns r.columns t.columns there) _ _ (IfDone (IsLinked tables (length columns)))
         (λ _. record { some = is.some; equally_many = x.1; within = is.within; table = l; target = subst (λ k. Within k there) (sym w) x.0 })
         (λ _. tt))
@@ -139,7 +144,7 @@ tables_law N tables before (t ∷ ts) done h is so =
     (λ links k. linked_push tables before done t links so k))
     (λ more k. moved (in_turn (link_table tables) more ts) (tables_law N tables (before ++ t ∷ []) ts more h (All-tail (IsClosed N N) t ts is) k))
   where
-    moved : (r : Result (List (List Reference)) DdlError) → IfDone (LinkedBy tables ((before ++ t ∷ []) ++ ts)) r → IfDone (LinkedBy tables (before ++ t ∷ ts)) r
+    moved : (r : Checked (List (List Reference))) → IfDone (LinkedBy tables ((before ++ t ∷ []) ++ ts)) r → IfDone (LinkedBy tables (before ++ t ∷ ts)) r
     moved (Ok ls) x = subst (λ (l : List TableRead). LinkedBy tables l ls) (append_assoc before (t ∷ []) ts) x
     moved (Err e) x = tt
 

@@ -1,98 +1,77 @@
--- One turn of a loop over parts that each change the value so far.
-use Rattle.std.proofs.Common.{◌≡◌, not, ℕ, suc, zero, ◌+◌, ◌-◌, ◌≤◌, Bool, true, false, List, [], ◌∷◌, length, drop, refl, ap, sym, ◌∙◌, arith, add-zero, Result, Ok, Err}
-use Rattle.std.proofs.lemmas.List.{drop-drop}
+-- One turn of a loop over parts, and the exits of such loops.
+use Rattle.std.proofs.Common.{◌≡◌, not, ℕ, ◌+◌, ◌≤◌, Bool, true, false, List, [], ◌∷◌, ◌++◌, length, drop, refl, ap, sym, ◌∙◌, arith, Result, Ok, Err}
 use Rattle.std.specs.Result.{IsErrAnd}
 use Rattle.std.proofs.lemmas.Result.{err_from_is_err_and}
-use Rattle.wt_lex.specs.declared.token.Token.{Token}
+use Rattle.wt_reading.specs.declared.lexeme.Kind.{Kind}
+use Rattle.wt_reading.specs.declared.lexeme.Kind.TheVariants.{End}
+use Rattle.wt_reading.specs.Lexemes.{Tokens, kind, at}
+use Rattle.wt_reading.specs.Readings.{plus, repeat, more}
+use Rattle.wt_reading.proofs.Loops as base
+use Rattle.wt_reading.proofs.Loops.{put_front, put_err}
 use Rattle.wt_ddl.specs.declared.fault.DdlError.{DdlError}
-use Rattle.wt_ddl.specs.declared.fault.DdlError.TheVariants as errors
-use Rattle.wt_lex.specs.declared.token.TokenKind.{TokenKind}
-use Rattle.wt_ddl.specs.Fronts.{Tokens, at_kind, is_end}
-use Rattle.wt_ddl.specs.Reading.{Read, plus, repeat, Leaves, at_option, some_left}
-use Rattle.wt_ddl.specs.Settling.{Fails}
-
-pub plus_plus : {A : Type 0} (n m : ℕ) (r : Read A) → plus n (plus m r) ≡ plus (n + m) r
-plus_plus n m (Ok x) = let e : n + (m + x.1) ≡ n + m + x.1 = omega arith in ap (λ k. Ok (x.0, k)) e
-plus_plus n m (Err e) = refl
-
-pub plus_zero : {A : Type 0} (r : Read A) → plus 0 r ≡ r
-plus_zero (Ok x) = let e : 0 + x.1 ≡ x.1 = omega arith in ap (λ k. Ok (x.0, k)) e
-plus_zero (Err e) = refl
-
-pub plus_err : {A : Type 0} (n : ℕ) (r : Read A) (f : DdlError) → plus n r ≡ Err f → r ≡ Err f
-plus_err n (Ok x) f h = absurd (cc)
-plus_err n (Err e) f h = h
-
-drop_one : (m : ℕ) (t : Token) (ts : Tokens) → 1 ≤ m → drop (m - 1) ts ≡ drop m (t ∷ ts)
-drop_one zero t ts h = absurd (omega arith)
-drop_one (suc m) t ts h = let e : suc m - 1 ≡ m = omega arith in ap (λ k. drop k ts) e
-
-module _ {A : Type 0} (test : Tokens → Bool) (part : A → Tokens → Read A) where
-  skip : (k : ℕ) (a : A) (ts : Tokens) → repeat test part k a ts ≡ repeat test part 0 a (drop k ts)
-  unfolding repeat
-  skip zero a ts = refl
-  skip (suc k) a [] = refl
-  skip (suc k) a (t ∷ ts) = skip k a ts
-
-  pub stops : (a : A) (ts : Tokens) → test ts ≡ false → repeat test part 0 a ts ≡ Ok (a, 0)
-  unfolding repeat
-  stops a [] h = refl
-  stops a (t ∷ ts) h = rw h
-
-  pub goes : (a b : A) (m : ℕ) (ts : Tokens) → 1 ≤ length ts → test ts ≡ true → part a ts ≡ Ok (b, m) → 1 ≤ m
-      → repeat test part 0 a ts ≡ plus m (repeat test part 0 b (drop m ts))
-  unfolding repeat
-  goes a b m [] some h e p = absurd (omega arith)
-  goes a b m (t ∷ ts) some h e p = rw (h, e) (ap (plus m) (skip (m - 1) b ts ∙ ap (repeat test part 0 b) (drop_one m t ts p)))
-
-  pub fails : (a : A) (e : DdlError) (ts : Tokens) → 1 ≤ length ts → test ts ≡ true → part a ts ≡ Err e → repeat test part 0 a ts ≡ Err e
-  unfolding repeat
-  fails a e [] some h p = absurd (omega arith)
-  fails a e (t ∷ ts) some h p = rw (h, p)
-
-  -- the invariant of such a loop, a turn on
-  pub loop_goes : (a b : A) (at m : ℕ) (ts : Tokens) → test (drop at ts) ≡ true → part a (drop at ts) ≡ Ok (b, m) → 1 ≤ m → m ≤ length (drop at ts)
-      → plus (at + m) (repeat test part 0 b (drop (at + m) ts)) ≡ plus at (repeat test part 0 a (drop at ts))
-  loop_goes a b at m ts h e p l =
-      sym (plus_plus at m (repeat test part 0 b (drop (at + m) ts)))
-      ∙ ap (λ r. plus at (plus m (repeat test part 0 b r))) (sym (drop-drop m at ts))
-      ∙ ap (plus at) (sym (goes a b m (drop at ts) (omega arith) h e p))
-
-  pub loop_fails : (a : A) (at : ℕ) (e : DdlError) (ts : Tokens) → 1 ≤ length (drop at ts) → test (drop at ts) ≡ true → part a (drop at ts) ≡ Err e
-      → plus at (repeat test part 0 a (drop at ts)) ≡ Err e
-  loop_fails a at e ts some h p = ap (plus at) (fails a e (drop at ts) some h p)
-
-  pub loop_stops : (a : A) (at : ℕ) (ts : Tokens) → test (drop at ts) ≡ false → plus at (repeat test part 0 a (drop at ts)) ≡ Ok (a, at)
-  loop_stops a at ts h = ap (plus at) (stops a (drop at ts) h) ∙ ap (λ n. Ok (a, n)) (add-zero at)
-
-fails_as : {A B : Type 0} (e : DdlError) (read : Read B) (r : Read A) → Fails e read → ((f : DdlError) → read ≡ Err f → r ≡ Err f) → Fails e r
-fails_as errors.Memory read r h next = tt
-fails_as (errors.Fault f at) read r h next = next (errors.Fault f at) h
-fails_as (errors.Lex f at) read r h next = next (errors.Lex f at) h
+use Rattle.wt_ddl.specs.Fronts.{at_end, at_some_word}
+use Rattle.wt_ddl.specs.Giving.{Fails, Leaves, Gives, Adds}
+use Rattle.wt_ddl.specs.Reading.{Read, at_option, some_left}
+use Rattle.wt_ddl.proofs.Turns.{fails_as}
 
 -- The three ends of a turn, where `s` is what the test looked at and `r` what the part read.
 module _ {A : Type 0} (test : Tokens → Bool) (part : A → Tokens → Read A) (some : (ts : Tokens) → test ts ≡ true → 1 ≤ length ts) where
+  turn_refused : (a : A) (at : ℕ) (ts r s : Tokens) (e : DdlError) (whole : Read A) → plus at (repeat test part 0 a (drop at ts)) ≡ whole
+      → s ≡ drop at ts → r ≡ drop at ts → test s ≡ true → Fails e (part a r) → Fails e whole
+  turn_refused a at ts r s e whole so tested there h fails =
+      fails_as e (part a r) whole fails (λ f p. base.turn_fails test part some a at ts f whole so (ap test (sym tested) ∙ h) (ap (part a) (sym there) ∙ p))
+
   pub turn_fails : (a new : A) (at : ℕ) (ts r s : Tokens) (e : DdlError) (got : Result ℕ DdlError) (whole : Read A) → plus at (repeat test part 0 a (drop at ts)) ≡ whole
       → s ≡ drop at ts → r ≡ drop at ts → test s ≡ true → IsErrAnd got (λ y. y ≡ e) → Fails e (part a r) → Leaves got new whole
   turn_fails a new at ts r s e got whole so tested there h was fails =
       let y = err_from_is_err_and got was in
-      let holds : test (drop at ts) ≡ true = ap test (sym tested) ∙ h in
-      rw (y.1 ∙ ap Err y.2)
-      (fails_as e (part a r) whole fails (λ f p. sym so ∙ loop_fails test part a at f ts (some (drop at ts) holds) holds (ap (part a) (sym there) ∙ p)))
+      rw (y.1 ∙ ap Err y.2) (turn_refused a at ts r s e whole so tested there h fails)
+
+  -- the same in a function that gives what was read
+  pub turn_gives_none : (a : A) (at : ℕ) (ts r s : Tokens) (e : DdlError) (got : Result (A × ℕ) DdlError) (whole : Read A) → plus at (repeat test part 0 a (drop at ts)) ≡ whole
+      → s ≡ drop at ts → r ≡ drop at ts → test s ≡ true → IsErrAnd got (λ y. y ≡ e) → Fails e (part a r) → Gives got whole
+  turn_gives_none a at ts r s e got whole so tested there h was fails =
+      let y = err_from_is_err_and got was in
+      rw (y.1 ∙ ap Err y.2) (turn_refused a at ts r s e whole so tested there h fails)
 
   pub turn_goes : (a b : A) (at m : ℕ) (ts r s : Tokens) (whole : Read A) → plus at (repeat test part 0 a (drop at ts)) ≡ whole
-      → s ≡ drop at ts → r ≡ drop at ts → test s ≡ true → part a r ≡ Ok (b, m) → 1 ≤ m → m ≤ length r
+      → s ≡ drop at ts → r ≡ drop at ts → test s ≡ true → part a r ≡ Ok (b, m) → 1 ≤ m
       → plus (at + m) (repeat test part 0 b (drop (at + m) ts)) ≡ whole
-  turn_goes a b at m ts r s whole so tested there h p one within =
-      loop_goes test part a b at m ts (ap test (sym tested) ∙ h) (ap (part a) (sym there) ∙ p) one (omega (arith, ap length there)) ∙ so
+  turn_goes a b at m ts r s whole so tested there h p one =
+      base.turn_goes test part some a b at m ts whole so (ap test (sym tested) ∙ h) one (ap (part a) (sym there) ∙ p)
 
   pub turn_stops : (a : A) (at : ℕ) (ts s : Tokens) (whole : Read A) → plus at (repeat test part 0 a (drop at ts)) ≡ whole → s ≡ drop at ts → test s ≡ false → whole ≡ Ok (a, at)
-  turn_stops a at ts s whole so tested h = sym so ∙ loop_stops test part a at ts (ap test (sym tested) ∙ h)
+  turn_stops a at ts s whole so tested h = base.turn_stops test part some a at ts whole so (ap test (sym tested) ∙ h)
 
--- a token of some kind is a token
-pub kind_some : (test : TokenKind → Bool) (ts : Tokens) → at_kind test ts ≡ true → 1 ≤ length ts
-kind_some test [] h = absurd (cc)
-kind_some test (t ∷ ts) h = omega arith
+-- the exit of a part in a loop over a list with a separator
+pub list_fails : {A : Type 0} (sep : Kind → Bool) (part : Tokens → Read A) (xs old new : List A) (at : ℕ) (ts r s : Tokens) (e : DdlError) (got : Result ℕ DdlError) → sep End ≡ false
+    → put_front xs at (more sep part 0 (drop at ts)) ≡ put_front old 0 (more sep part 0 ts)
+    → s ≡ drop at ts → r ≡ drop (at + 1) ts → sep (kind s) ≡ true → IsErrAnd got (λ y. y ≡ e) → Fails e (part r) → Adds got old new (more sep part 0 ts)
+list_fails sep part xs old new at ts r s e got end so tested there h was fails =
+    let y = err_from_is_err_and got was in
+    let test : sep (kind (drop at ts)) ≡ true = ap (λ l. sep (kind l)) (sym tested) ∙ h in
+    rw (y.1 ∙ ap Err y.2)
+    (fails_as e (part r) (more sep part 0 ts) fails (λ f p. put_err old 0 (more sep part 0 ts) f (sym so ∙ base.loop_fails sep part xs at f ts end test (ap part (sym there) ∙ p))))
+
+pub list_goes : {A : Type 0} (sep : Kind → Bool) (part : Tokens → Read A) (xs new old : List A) (at n : ℕ) (x : A) (ts r s : Tokens) → sep End ≡ false
+    → put_front xs at (more sep part 0 (drop at ts)) ≡ put_front old 0 (more sep part 0 ts)
+    → s ≡ drop at ts → r ≡ drop (at + 1) ts → sep (kind s) ≡ true → part r ≡ Ok (x, n) → new ≡ xs ++ x ∷ []
+    → put_front new (at + (n + 1)) (more sep part 0 (drop (at + (n + 1)) ts)) ≡ put_front old 0 (more sep part 0 ts)
+list_goes sep part xs new old at n x ts r s end so tested there h p pushed =
+    base.loop_goes sep part xs new at n (at + (n + 1)) x ts end (ap (λ l. sep (kind l)) (sym tested) ∙ h) (ap part (sym there) ∙ p) pushed refl ∙ so
+
+pub list_stops : {A : Type 0} (sep : Kind → Bool) (part : Tokens → Read A) (xs old : List A) (at : ℕ) (ts s : Tokens)
+    → put_front xs at (more sep part 0 (drop at ts)) ≡ put_front old 0 (more sep part 0 ts) → s ≡ drop at ts → sep (kind s) ≡ false → put_front old 0 (more sep part 0 ts) ≡ Ok (xs, at)
+list_stops sep part xs old at ts s so tested h = sym so ∙ base.loop_stops sep part xs at ts (ap (λ l. sep (kind l)) (sym tested) ∙ h)
+
+-- where a test holds, there is a token
+pub kind_some : (test : Kind → Bool) → test End ≡ false → (ts : Tokens) → at test ts ≡ true → 1 ≤ length ts
+kind_some test none [] h = absurd (cc)
+kind_some test none (t ∷ ts) h = omega arith
+
+pub word_some : (ts : Tokens) → at_some_word ts ≡ true → 1 ≤ length ts
+word_some [] h = absurd (cc)
+word_some (t ∷ ts) h = omega arith
 
 pub option_some : (bytes : List ℕ) (ts : Tokens) → at_option bytes ts ≡ true → 1 ≤ length ts
 option_some bytes [] h = absurd (cc)
@@ -102,8 +81,8 @@ pub left_some : (ts : Tokens) → some_left ts ≡ true → 1 ≤ length ts
 left_some [] h = absurd (cc)
 left_some (t ∷ ts) h = omega arith
 
-pub left_true : (ts : Tokens) (end : Bool) → end ≡ is_end ts → end ≡ false → some_left ts ≡ true
+pub left_true : (ts : Tokens) (end : Bool) → end ≡ at_end ts → end ≡ false → some_left ts ≡ true
 left_true ts end e h = ap not (sym e ∙ h)
 
-pub left_false : (ts : Tokens) (end : Bool) → end ≡ is_end ts → end ≡ true → some_left ts ≡ false
+pub left_false : (ts : Tokens) (end : Bool) → end ≡ at_end ts → end ≡ true → some_left ts ≡ false
 left_false ts end e h = ap not (sym e ∙ h)

@@ -5,12 +5,14 @@ use Rattle.std.proofs.lemmas.List.{drop_more}
 use Rattle.std.proofs.lemmas.Result.{err_from_is_err_and}
 use Rattle.wt_ddl.specs.declared.fault.DdlError.{DdlError}
 use Rattle.wt_ddl.specs.declared.fault.DdlError.TheVariants as errors
-use Rattle.wt_ddl.specs.Settling.{Fails, Agrees, Puts, chain, in_turn}
+use Rattle.wt_ddl.specs.Giving.{Fails, Agrees, Puts}
+use Rattle.wt_ddl.specs.Refusals.{refused, odd, Fault, Checked, chain}
+use Rattle.wt_ddl.specs.Settling.{in_turn}
 
-fails_as : {A B : Type 0} (e : DdlError) (given : Result B DdlError) (r : Result A DdlError) → Fails e given → ((f : DdlError) → given ≡ Err f → r ≡ Err f) → Fails e r
+pub fails_as : {A B : Type 0} (e : DdlError) (given : Checked B) (r : Checked A) → Fails e given → ((f : Fault) → given ≡ Err f → r ≡ Err f) → Fails e r
 fails_as errors.Memory given r h next = tt
-fails_as (errors.Fault f at) given r h next = next (errors.Fault f at) h
-fails_as (errors.Lex f at) given r h next = next (errors.Lex f at) h
+fails_as (errors.Fault f at) given r h next = next (refused f, at) h
+fails_as (errors.Lex f at) given r h next = next (odd f, at) h
 
 pub drop-none : {X : Type 0} (xs : List X) (i : ℕ) → length xs ≤ i → drop i xs ≡ []
 drop-none [] zero l = refl
@@ -18,12 +20,12 @@ drop-none [] (suc i) l = refl
 drop-none (x ∷ xs) zero l = absurd (omega arith)
 drop-none (x ∷ xs) (suc i) l = drop-none xs i (omega arith)
 
-module _ {A X : Type 0} (step : A → X → Result A DdlError) where
+module _ {A X : Type 0} (step : A → X → Checked A) where
   pub in_turn-append : (a : A) (xs ys : List X) → in_turn step a (xs ++ ys) ≡ chain (in_turn step a xs) (λ b. in_turn step b ys)
   in_turn-append a [] ys = refl
   in_turn-append a (x ∷ xs) ys = by (λ b. in_turn-append b xs ys) (step a x)
     where
-      by : ((b : A) → in_turn step b (xs ++ ys) ≡ chain (in_turn step b xs) (λ c. in_turn step c ys)) → (r : Result A DdlError)
+      by : ((b : A) → in_turn step b (xs ++ ys) ≡ chain (in_turn step b xs) (λ c. in_turn step c ys)) → (r : Checked A)
           → chain r (λ b. in_turn step b (xs ++ ys)) ≡ chain (chain r (λ b. in_turn step b xs)) (λ c. in_turn step c ys)
       by ih (Ok b) = ih b
       by ih (Err e) = refl
@@ -31,18 +33,18 @@ module _ {A X : Type 0} (step : A → X → Result A DdlError) where
   here : (a : A) (xs : List X) (i : ℕ) (x : X) → i < length xs → x ≡ get_or xs i x → in_turn step a (drop i xs) ≡ chain (step a x) (λ b. in_turn step b (drop (i + 1) xs))
   here a xs i x l is = ap (in_turn step a) (drop_more xs i x l) ∙ ap (λ y. chain (step a y) (λ b. in_turn step b (drop (i + 1) xs))) (sym is)
 
-  pub step_goes : (a b : A) (xs : List X) (i : ℕ) (x : X) (whole : Result A DdlError) → in_turn step a (drop i xs) ≡ whole → i < length xs → x ≡ get_or xs i x → step a x ≡ Ok b
+  pub step_goes : (a b : A) (xs : List X) (i : ℕ) (x : X) (whole : Checked A) → in_turn step a (drop i xs) ≡ whole → i < length xs → x ≡ get_or xs i x → step a x ≡ Ok b
       → in_turn step b (drop (i + 1) xs) ≡ whole
   step_goes a b xs i x whole so l is p = sym (ap (λ r. chain r (λ b. in_turn step b (drop (i + 1) xs))) p) ∙ sym (here a xs i x l is) ∙ so
 
-  pub step_fails : (a : A) (xs : List X) (i : ℕ) (x : X) (e : DdlError) (got : Result A DdlError) (whole : Result A DdlError) → in_turn step a (drop i xs) ≡ whole → i < length xs → x ≡ get_or xs i x
+  pub step_fails : (a : A) (xs : List X) (i : ℕ) (x : X) (e : DdlError) (got : Result A DdlError) (whole : Checked A) → in_turn step a (drop i xs) ≡ whole → i < length xs → x ≡ get_or xs i x
       → IsErrAnd got (λ y. y ≡ e) → Fails e (step a x) → Agrees got whole
   step_fails a xs i x e got whole so l is was fails =
       let y = err_from_is_err_and got was in
       rw (y.1 ∙ ap Err y.2)
       (fails_as e (step a x) whole fails (λ f p. sym so ∙ here a xs i x l is ∙ ap (λ r. chain r (λ b. in_turn step b (drop (i + 1) xs))) p))
 
-  pub step_ends : (a : A) (xs : List X) (i : ℕ) (whole : Result A DdlError) → in_turn step a (drop i xs) ≡ whole → length xs ≤ i → whole ≡ Ok a
+  pub step_ends : (a : A) (xs : List X) (i : ℕ) (whole : Checked A) → in_turn step a (drop i xs) ≡ whole → length xs ≤ i → whole ≡ Ok a
   step_ends a xs i whole so l = sym so ∙ ap (in_turn step a) (drop-none xs i l)
 
   -- the elements so far, one more, and those that are left

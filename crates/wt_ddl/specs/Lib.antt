@@ -1,6 +1,9 @@
 pub mod Fronts
+pub mod Giving
 pub mod Grammar
 pub mod Linking
+pub mod Places
 pub mod Reading
+pub mod Refusals
 pub mod Schemas
 pub mod Settling

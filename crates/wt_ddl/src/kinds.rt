@@ -1,16 +1,17 @@
 //! The type of a column.
 ghost use Rattle.std.specs.Prelude.{◌≡◌, ◌≤◌, length, IfOk};
+ghost use Rattle.wt_ddl.specs.Giving.{Gives, Takes};
 ghost use Rattle.wt_ddl.specs.Reading as spec;
 
 use crate::fault::{DdlError, DdlFault};
 use crate::names::{close, word};
-use crate::rest::{Rest, Text, at_open, at_some_word};
+use crate::rest::{Rest, Text, at_open};
 use wt_lex::{LexFault, TokenKind};
 use wt_schema::ColKind;
 
 #[tactic(auto, unfolding(crate::specs::Reading::number))]
 fn number(text: &Text, rest: &Rest) -> Result<usize, DdlError>
-    ensures exact { spec.Takes result (spec.number text.now rest.now) }
+    ensures exact { Takes result (spec.number text.now rest.now) }
     ensures one { IfOk result (λ n. (n ≡ 1) × (1 ≤ length rest.now)) }
 {
     let Some(token) = rest.first() else {
@@ -27,9 +28,9 @@ fn number(text: &Text, rest: &Rest) -> Result<usize, DdlError>
 }
 
 // The width in parentheses that may stand behind a text type.
-#[tactic(auto, unfolding(crate::specs::Reading::width))]
+#[tactic(auto, unfolding(crate::specs::Reading::width, wt_reading::specs::Readings::expect))]
 fn width(text: &Text, rest: &Rest) -> Result<(ColKind, usize), DdlError>
-    ensures exact { spec.Gives result (spec.width text.now rest.now) }
+    ensures exact { Gives result (spec.width text.now rest.now) }
     ensures within { IfOk result (λ x. x.1 ≤ length rest.now) }
 {
     if !at_open(rest) {
@@ -50,9 +51,9 @@ fn at_whole(text: &Text, rest: &Rest) -> bool
         || text.at_word(rest, b"smallint")
 }
 
-#[tactic(auto, unfolding(crate::specs::Reading::kind))]
-pub(crate) fn kind(text: &Text, rest: &Rest) -> Result<(ColKind, usize), DdlError>
-    ensures exact { spec.Gives result (spec.kind text.now rest.now) }
+#[tactic(auto, unfolding(crate::specs::Reading::kind_of))]
+pub(crate) fn kind_of(text: &Text, rest: &Rest) -> Result<(ColKind, usize), DdlError>
+    ensures exact { Gives result (spec.kind_of text.now rest.now) }
     ensures within { IfOk result (λ x. x.1 ≤ length rest.now) }
 {
     if at_whole(text, rest) {
@@ -71,8 +72,5 @@ pub(crate) fn kind(text: &Text, rest: &Rest) -> Result<(ColKind, usize), DdlErro
         let (kind, m) = width(text, &a.after(n))?;
         return Ok((kind, 1 + n + m));
     }
-    if at_some_word(rest) {
-        return Err(text.no(DdlFault::UnsupportedType, rest));
-    }
-    Err(text.no(DdlFault::Syntax, rest))
+    Err(text.other(DdlFault::UnsupportedType, rest))
 }

@@ -1,7 +1,6 @@
 //! Reads the CREATE TABLE statements of a schema.
 #![tactic(auto)]
 
-mod draft;
 mod fault;
 mod kinds;
 mod linking;
@@ -12,9 +11,13 @@ mod rest;
 mod rules;
 mod settling;
 mod statements;
+mod syntax;
+mod table;
 mod targets;
-#[cfg(test)]
-mod tests;
 
 pub use fault::{DdlError, DdlFault};
 pub use reading::read_schema;
+pub use syntax::{
+    ColumnPart, ColumnRule, ColumnRules, Element, Elements, Named, NamedList, TableRule, Target,
+};
+pub use table::{OpenReference, OpenReferences, TableRead, TablesRead};

@@ -1,15 +1,19 @@
 //! The targets of references, behind the last statement.
-ghost use Rattle.std.specs.Prelude.{◌≡◌, ◌==◌, ◌≤◌, ◌<◌, [], length, IfSome, IfOk, IfErr};
+ghost use Rattle.std.specs.Prelude.{◌≡◌, ◌==◌, ◌≤◌, ◌<◌, [], length, Some, IfSome, IfOk, IfErr};
 ghost use Rattle.std.specs.List.{All, list_all, list_any};
 ghost use Rattle.wt_ddl.specs.Linking as spec;
-ghost use Rattle.wt_ddl.specs.Settling.{Agrees, Puts, in_turn, is_among};
+ghost use Rattle.wt_ddl.specs.Giving.{Agrees, Puts};
+ghost use Rattle.wt_ddl.specs.Places as spec_places;
+ghost use Rattle.wt_ddl.specs.Places.{Placed};
+ghost use Rattle.wt_ddl.specs.Settling.{in_turn, is_among};
 
-use crate::draft::{Named, NamedList, OpenReference, TableRead, TablesRead};
 use crate::fault::{DdlError, DdlFault};
 use crate::places::{KeyPlaces, places_of};
-use crate::settling::{column_number, copied, is_among};
+use crate::settling::{copied, is_among};
+use crate::syntax::{Named, NamedList};
+use crate::table::{OpenReference, TableRead, TablesRead};
 use std::alloc::Global;
-use wt_schema::{ColKind, Column, Key, Reference, References, Table, Tables};
+use wt_schema::{ColKind, Column, Key, Reference, References, Table, Tables, column_number};
 use wt_value::{Cols, Name, Seq};
 
 fn table_number(tables: &[TableRead], name: &Name) -> Option<usize>
@@ -61,19 +65,15 @@ fn all_among(numbers: &[u32], columns: &[u32]) -> bool
     numbers.iter().all(|number| is_among(*number, columns))
 }
 
-fn is_key(columns: &[u32], keys: &[Key], places: Option<&KeyPlaces>) -> bool
+fn is_key(columns: &[u32], keys: &[Key], places: &KeyPlaces) -> bool
     ensures { result ≡ list_any (spec.has_exactly columns.now) keys.now }
 {
-    if let Some(place) = place_of(columns, places) {
+    if let Some(place) = places.find(columns) {
         if place < keys.len() && has_exactly(columns, &keys[place]) {
             return true;
         }
     }
     any_exactly(columns, keys)
-}
-
-fn place_of(columns: &[u32], places: Option<&KeyPlaces>) -> Option<usize> {
-    places?.find(columns)
 }
 
 fn any_exactly(columns: &[u32], keys: &[Key]) -> bool
@@ -120,22 +120,29 @@ fn same_kinds(here: &[Column], mut from: &[u32], there: &[Column], mut to: &[u32
     true
 }
 
-fn primary_target(primary: &Option<Cols>, width: usize, at: u32) -> Result<Cols, DdlError>
-    ensures { Agrees result (spec.primary_target primary.now width at) }
+fn of_width(key: &Key, width: usize, at: u32) -> Result<Cols, DdlError>
+    ensures { Agrees result (spec.of_width (Some key.now) width at) }
 {
-    let Some(columns) = primary else {
-        return Err(DdlError::Fault(DdlFault::ReferenceNotKey, at));
-    };
-    if columns.len() != width {
+    if key.columns.len() != width {
         return Err(DdlError::Fault(DdlFault::ReferenceWidth, at));
     }
-    copied(columns)
+    copied(&key.columns)
+}
+
+fn primary_target(keys: &[Key], places: &KeyPlaces, width: usize, at: u32) -> Result<Cols, DdlError>
+    requires { places.now.primary ≡ spec_places.primary_place keys.now }
+    ensures { Agrees result (spec.primary_target keys.now width at) }
+{
+    match places.primary {
+        None => Err(DdlError::Fault(DdlFault::ReferenceNotKey, at)),
+        Some(place) => of_width(&keys[place], width, at),
+    }
 }
 
 fn named_target(
     alloc: Global,
     table: &TableRead,
-    places: Option<&KeyPlaces>,
+    places: &KeyPlaces,
     names: &[Named],
     width: usize,
     at: u32,
@@ -156,16 +163,17 @@ fn named_target(
 fn target_columns(
     alloc: Global,
     table: &TableRead,
-    places: Option<&KeyPlaces>,
+    places: &KeyPlaces,
     names: &Option<NamedList>,
     width: usize,
     at: u32,
 ) -> Result<Cols, DdlError>
-    requires { length table.now.columns ≤ 64 }
+    requires narrow { length table.now.columns ≤ 64 }
+    requires placed { places.now.primary ≡ spec_places.primary_place table.now.keys }
     ensures { Agrees result (spec.target_columns table.now names.now width at) }
 {
     match names {
-        None => primary_target(&table.primary, width, at),
+        None => primary_target(table.keys.as_slice(), places, width, at),
         Some(names) => named_target(alloc, table, places, names.as_slice(), width, at),
     }
 }
@@ -177,9 +185,10 @@ fn linked_to(
     reference: &OpenReference,
     number: u32,
     table: &TableRead,
-    places: Option<&KeyPlaces>,
+    places: &KeyPlaces,
 ) -> Result<Reference, DdlError>
-    requires { length table.now.columns ≤ 64 }
+    requires narrow { length table.now.columns ≤ 64 }
+    requires placed { places.now.primary ≡ spec_places.primary_place table.now.keys }
     ensures { Agrees result (spec.linked_to columns.now reference.now number table.now) }
 {
     let at = reference.target.table.at;
@@ -217,6 +226,7 @@ fn linked(
 ) -> Result<Reference, DdlError>
     requires few { length tables.now ≤ 256 }
     requires narrow { All (λ t. length t.columns ≤ 64) tables.now }
+    requires placed { Placed tables.now places.now }
     ensures { Agrees result (spec.linked tables.now columns.now reference.now) }
 {
     let Some(number) = table_number(tables, &reference.target.table.name) else {
@@ -228,7 +238,7 @@ fn linked(
         reference,
         number as u32,
         &tables[number],
-        places.get(number),
+        &places[number],
     )
 }
 
@@ -242,6 +252,7 @@ fn link_one(
 ) -> Result<(), DdlError>
     requires few { length tables.now ≤ 256 }
     requires narrow { All (λ t. length t.columns ≤ 64) tables.now }
+    requires placed { Placed tables.now places.now }
     ensures { Puts result done.new (spec.link_one tables.now columns.now done.old reference.now) }
 {
     let one = linked(alloc, tables, places, columns, reference)?;
@@ -258,6 +269,7 @@ fn table_links(
 ) -> Result<References, DdlError>
     requires few { length tables.now ≤ 256 }
     requires narrow { All (λ t. length t.columns ≤ 64) tables.now }
+    requires placed { Placed tables.now places.now }
     ensures { Agrees result (in_turn (spec.link_one tables.now columns.now) [] unlinked.now) }
 {
     let mut done = References::new(alloc);
@@ -278,6 +290,7 @@ fn link_table(
 ) -> Result<(), DdlError>
     requires few { length tables.now ≤ 256 }
     requires narrow { All (λ t. length t.columns ≤ 64) tables.now }
+    requires placed { Placed tables.now places.now }
     ensures { Puts result done.new (spec.link_table tables.now done.old table.now) }
 {
     let links = table_links(

@@ -1,10 +1,11 @@
 //! Reads a whole schema.
-ghost use Rattle.std.specs.Prelude.{◌≡◌, ◌≤◌, ◌^◌, length, Ok, OnOk};
+ghost use Rattle.std.specs.Prelude.{◌≡◌, map, Ok, IfOk};
 ghost use Rattle.wt_lex.specs.Tokens.{lexed};
 ghost use Rattle.wt_ddl.specs.Grammar.{IsText};
 ghost use Rattle.wt_ddl.specs.Reading.{statements as statements_of};
 ghost use Rattle.wt_ddl.specs.Schemas as spec;
-ghost use Rattle.wt_ddl.specs.Settling.{Agrees};
+ghost use Rattle.wt_ddl.specs.Giving as giving;
+ghost use Rattle.wt_reading.specs.Lexemes.{lexeme};
 
 use crate::fault::DdlError;
 use crate::linking::linked_tables;
@@ -19,8 +20,8 @@ use wt_schema::{Schema, Tables};
 pub fn read_schema(alloc: Global, bytes: &[u8]) -> Result<Schema, DdlError>
     ensures exact { spec.Reads result (spec.schema_of bytes.now) }
 
-    // What is read is a sentence of the grammar.
-    ensures sentence { OnOk result (IsText bytes.now) }
+    // What is read is a sentence of the grammar, of these tables.
+    ensures sentence { IfOk result (λ schema. IsText bytes.now schema.tables) }
 {
     let tokens = tokens_of(alloc, bytes)?;
     if let Some(error) = first_odd(&tokens) {
@@ -31,7 +32,7 @@ pub fn read_schema(alloc: Global, bytes: &[u8]) -> Result<Schema, DdlError>
 }
 
 fn tokens_of<'a>(alloc: Global, bytes: &'a [u8]) -> Result<Tokens<'a>, DdlError>
-    ensures { spec.Lexes result (lexed bytes.now) }
+    ensures { giving.Lexes result (lexed bytes.now) }
 {
     match lex(alloc, bytes) {
         Ok(tokens) => Ok(tokens),
@@ -42,7 +43,7 @@ fn tokens_of<'a>(alloc: Global, bytes: &'a [u8]) -> Result<Tokens<'a>, DdlError>
 
 // The first token that is refused wherever it stands.
 fn first_odd(tokens: &Tokens) -> Option<DdlError>
-    ensures { result ≡ spec.first_odd tokens.now }
+    ensures { giving.IsFault result (spec.first_odd tokens.now) }
 {
     let mut i = 0;
     'tokens: while i < tokens.len() {
@@ -57,9 +58,9 @@ fn first_odd(tokens: &Tokens) -> Option<DdlError>
 
 fn tables_of(alloc: Global, bytes: &[u8], tokens: &Tokens) -> Result<Tables, DdlError>
     requires { lexed bytes.now ≡ Ok tokens.now }
-    ensures { Agrees result (spec.linked_up (statements_of bytes.now tokens.now)) }
+    ensures { giving.Agrees result (spec.linked_up (statements_of bytes.now (map (lexeme bytes.now) tokens.now))) }
 {
     let text = Text::new(bytes);
-    let (tables, _) = statements(alloc, &text, &Rest::new(tokens))?;
+    let (tables, _) = statements(alloc, &text, &Rest::new(bytes, tokens))?;
     linked_tables(alloc, tables)
 }

@@ -1,34 +1,42 @@
-//! The tokens that are left of a text, and what stands at their front.
-ghost use Rattle.std.specs.Prelude.{◌≡◌, ◌≤◌, ◌<◌, ◌^◌, length, drop, true};
+//! A text, a place in its tokens, and what stands there.
+ghost use Rattle.std.specs.Prelude.{◌≡◌, ◌<◌, ◌≤◌, ◌^◌, length, drop, map, if◌then◌else◌, Option, IfSome};
+ghost use Rattle.wt_reading.specs.Lexemes as base;
 ghost use Rattle.wt_ddl.specs.Fronts as spec;
 
 use crate::fault::{DdlError, DdlFault};
 use std::marker::Model;
-use wt_lex::{Sym, Token, TokenKind, Tokens, is_word};
+use wt_lex::{Sym, Token, TokenKind, Tokens, Word, is_word};
+use wt_reading::{Kind, lexeme_of};
 
-/// The tokens from a place on.
+/// The tokens of a text from a place on.
 #[derive(Drop)]
 pub(crate) struct Rest<'a> {
+    bytes: &'a [u8],
     tokens: &'a Tokens<'a>,
     at: usize,
 }
 
 impl<'a> Model for Rest<'a> {
-    ghost use Rattle.std.specs.Prelude.{List, drop, length, ◌≤◌};
-    ghost use Rattle.wt_lex.specs.declared.token.Token.{Token};
+    ghost use Rattle.std.specs.Prelude.{List, map, drop, length, ◌≤◌};
+    ghost use Rattle.wt_reading.specs.declared.lexeme.Lexeme.{Lexeme};
+    ghost use Rattle.wt_reading.specs.Lexemes.{lexeme};
 
-    ghost Value = { List Token };
+    ghost Value = { List Lexeme };
 
-    ghost view = { λ r. drop r.at r.tokens.now };
+    ghost view = { λ r. map (lexeme r.bytes.now) (drop r.at r.tokens.now) };
 
     ghost invariant = { λ r. r.at ≤ length r.tokens.now };
 }
 
 impl<'a> Rest<'a> {
-    pub(crate) fn new(tokens: &'a Tokens<'a>) -> Rest<'a>
-        ensures { result ≡ tokens.now }
+    pub(crate) fn new(bytes: &'a [u8], tokens: &'a Tokens<'a>) -> Rest<'a>
+        ensures { result ≡ map (base.lexeme bytes.now) tokens.now }
     {
-        Rest { tokens, at: 0 }
+        Rest {
+            bytes,
+            tokens,
+            at: 0,
+        }
     }
 
     // The tokens behind the first n.
@@ -38,13 +46,15 @@ impl<'a> Rest<'a> {
     {
         let left = self.tokens.len() - self.at;
         Rest {
+            bytes: self.bytes,
             tokens: self.tokens,
             at: self.at + n.min(left),
         }
     }
 
     pub(crate) fn first(&self) -> Option<Token>
-        ensures { result ≡ spec.first self.now }
+        ensures value { result ≡ spec.first self.now }
+        ensures kind { IfSome result (λ t. (w : Option Word) × (base.kind self.now ≡ base.kind_by t.kind w)) }
     {
         if self.at < self.tokens.len() {
             Some(self.tokens.get(self.at))
@@ -52,16 +62,33 @@ impl<'a> Rest<'a> {
             None
         }
     }
+
+    // The kind of the first token. A word is looked for among the reserved ones.
+    pub(crate) fn kind(&self) -> Kind
+        ensures { result ≡ base.kind self.now }
+    {
+        if self.at < self.tokens.len() {
+            lexeme_of(self.bytes, self.tokens.get(self.at)).kind
+        } else {
+            Kind::End
+        }
+    }
+}
+
+pub(crate) fn at_name(rest: &Rest) -> bool
+    ensures { result ≡ base.at base.is_name rest.now }
+{
+    matches!(rest.kind(), Kind::Name)
 }
 
 pub(crate) fn is_end(rest: &Rest) -> bool
-    ensures { result ≡ spec.is_end rest.now }
+    ensures { result ≡ spec.at_end rest.now }
 {
     rest.first().is_none()
 }
 
 pub(crate) fn at_open(rest: &Rest) -> bool
-    ensures { result ≡ spec.at_kind spec.is_open rest.now }
+    ensures { result ≡ base.at base.is_open rest.now }
 {
     match rest.first() {
         Some(token) => matches!(token.kind, TokenKind::Symbol(Sym::Open)),
@@ -70,7 +97,7 @@ pub(crate) fn at_open(rest: &Rest) -> bool
 }
 
 pub(crate) fn at_close(rest: &Rest) -> bool
-    ensures { result ≡ spec.at_kind spec.is_close rest.now }
+    ensures { result ≡ base.at base.is_close rest.now }
 {
     match rest.first() {
         Some(token) => matches!(token.kind, TokenKind::Symbol(Sym::Close)),
@@ -79,7 +106,7 @@ pub(crate) fn at_close(rest: &Rest) -> bool
 }
 
 pub(crate) fn at_comma(rest: &Rest) -> bool
-    ensures { result ≡ spec.at_kind spec.is_comma rest.now }
+    ensures { result ≡ base.at base.is_comma rest.now }
 {
     match rest.first() {
         Some(token) => matches!(token.kind, TokenKind::Symbol(Sym::Comma)),
@@ -88,7 +115,7 @@ pub(crate) fn at_comma(rest: &Rest) -> bool
 }
 
 pub(crate) fn at_semi(rest: &Rest) -> bool
-    ensures { result ≡ spec.at_kind spec.is_semi rest.now }
+    ensures { result ≡ base.at base.is_semi rest.now }
 {
     match rest.first() {
         Some(token) => matches!(token.kind, TokenKind::Symbol(Sym::Semi)),
@@ -97,7 +124,7 @@ pub(crate) fn at_semi(rest: &Rest) -> bool
 }
 
 pub(crate) fn at_some_word(rest: &Rest) -> bool
-    ensures { result ≡ spec.at_kind spec.is_some_word rest.now }
+    ensures { result ≡ spec.at_some_word rest.now }
 {
     match rest.first() {
         Some(token) => matches!(token.kind, TokenKind::Word),
@@ -137,7 +164,7 @@ impl<'a> Text<'a> {
 
     // The place of the first token, or the text's length.
     pub(crate) fn place(&self, rest: &Rest) -> u32
-        ensures { result ≡ spec.place self.now rest.now }
+        ensures { result ≡ base.place (length self.now) rest.now }
     {
         match rest.first() {
             Some(token) => token.start,
@@ -156,8 +183,19 @@ impl<'a> Text<'a> {
     }
 
     pub(crate) fn no(&self, fault: DdlFault, rest: &Rest) -> DdlError
-        ensures { result ≡ DdlError.Fault fault (spec.place self.now rest.now) }
+        ensures { result ≡ DdlError.Fault fault (base.place (length self.now) rest.now) }
     {
         DdlError::Fault(fault, self.place(rest))
+    }
+
+    // A word without support, where one of some words may stand.
+    pub(crate) fn other(&self, fault: DdlFault, rest: &Rest) -> DdlError
+        ensures { result ≡ DdlError.Fault (if spec.at_some_word rest.now then fault else DdlFault.Syntax) (base.place (length self.now) rest.now) }
+    {
+        if at_some_word(rest) {
+            self.no(fault, rest)
+        } else {
+            self.no(DdlFault::Syntax, rest)
+        }
     }
 }

@@ -1,111 +1,99 @@
 //! Columns with their rules, and the rules of tables.
-ghost use Rattle.std.specs.Prelude.{◌≡◌, ◌≤◌, length, true, OnOk, IfOk, IfErr};
-ghost use Rattle.wt_ddl.specs.Fronts.{at_kind, is_some_word};
+ghost use Rattle.std.specs.Prelude.{◌≡◌, ◌≤◌, length, true, IfOk};
+ghost use Rattle.std.specs.List.{list_any};
+ghost use Rattle.wt_ddl.specs.Giving.{Gives, Leaves, Takes};
 ghost use Rattle.wt_ddl.specs.Reading as spec;
+ghost use Rattle.wt_ddl.specs.Settling.{columns_of};
+ghost use Rattle.wt_reading.specs.Readings.{one_more};
 
-use crate::draft::{ColumnList, KeyRule, ReferenceRule, Rule, TableDraft, Target};
 use crate::fault::{DdlError, DdlFault};
-use crate::kinds::kind;
+use crate::kinds::kind_of;
 use crate::names::{name, names, word};
 use crate::rest::{Rest, Text, at_comma, at_some_word};
+use crate::syntax::{
+    ColumnPart, ColumnRule, ColumnRules, Element, Elements, Named, TableRule, Target,
+};
 use crate::targets::target;
 use std::alloc::Global;
-use wt_schema::{ColKind, Column};
 use wt_value::Name;
 
 /// The greatest number of columns of a table.
 const MOST_COLUMNS: usize = 64;
 
-fn has_column(columns: &[Column], name: &Name) -> bool
-    ensures { result ≡ spec.has_column columns.now name.now }
+fn is_own_primary(rule: &ColumnRule) -> bool
+    ensures { result ≡ spec.is_own_primary rule.now }
 {
-    columns.iter().any(|column| column.name == *name)
+    matches!(rule, ColumnRule::PrimaryKey)
 }
 
-fn is_primary(rule: &Rule) -> bool
-    ensures { result ≡ spec.is_primary rule.now }
+fn has_own_primary(rules: &[ColumnRule]) -> bool
+    ensures { result ≡ list_any spec.is_own_primary rules.now }
 {
-    match rule {
-        Rule::Key(key) => key.primary,
-        Rule::Reference(_) => false,
+    rules.iter().any(is_own_primary)
+}
+
+fn is_primary(element: &Element) -> bool
+    ensures { result ≡ spec.is_primary element.now }
+{
+    match element {
+        Element::Column(column) => has_own_primary(column.rules.as_slice()),
+        Element::Rule(TableRule::PrimaryKey(_)) => true,
+        Element::Rule(_) => false,
     }
 }
 
-fn has_primary(table: &TableDraft) -> bool
-    ensures { result ≡ spec.has_primary table.now }
+fn has_primary(elements: &[Element]) -> bool
+    ensures { result ≡ spec.has_primary elements.now }
 {
-    table.rules.as_slice().iter().any(is_primary)
+    elements.iter().any(is_primary)
 }
 
-fn add_key(table: &mut TableDraft, columns: ColumnList, primary: bool) -> Result<(), DdlError>
-    ensures ok { OnOk result (table.new ≡ spec.with_key table.old columns primary) }
-    ensures err { IfErr result (λ e. e ≡ DdlError.Memory) }
+fn is_column(element: &Element, name: &Name) -> bool
+    ensures { result ≡ spec.is_column name.now element.now }
 {
-    table.rules.push(Rule::Key(KeyRule { columns, primary }))?;
-    Ok(())
+    match element {
+        Element::Column(column) => column.name.name == *name,
+        Element::Rule(_) => false,
+    }
 }
 
-fn add_reference(
-    table: &mut TableDraft,
-    columns: ColumnList,
-    target: Target,
-) -> Result<(), DdlError>
-    ensures ok { OnOk result (table.new ≡ spec.with_reference table.old columns target) }
-    ensures err { IfErr result (λ e. e ≡ DdlError.Memory) }
+fn has_column(elements: &[Element], name: &Name) -> bool
+    ensures { result ≡ spec.has_column elements.now name.now }
 {
-    table
-        .rules
-        .push(Rule::Reference(ReferenceRule { columns, target }))?;
-    Ok(())
+    elements.iter().any(|element| is_column(element, name))
 }
 
-fn add_column(table: &mut TableDraft, name: Name, kind: ColKind) -> Result<(), DdlError>
-    ensures ok { OnOk result (table.new ≡ spec.with_column table.old name kind) }
-    ensures err { IfErr result (λ e. e ≡ DdlError.Memory) }
+// How many columns there are.
+fn width(elements: &[Element]) -> usize
+    ensures { result ≡ length (columns_of elements.now) }
 {
-    let not_null = table.not_null;
-    table.columns.push(Column {
-        name,
-        kind,
-        not_null,
-    })?;
-    Ok(())
+    let mut count = 0;
+    let mut i = 0;
+    'elements: while i < elements.len() {
+        if let Element::Column(_) = &elements[i] {
+            count += 1;
+        }
+        i += 1;
+    }
+    count
 }
 
 // PRIMARY KEY at a column.
 #[tactic(auto, unfolding(crate::specs::Reading::own_primary))]
 fn own_primary(
     text: &Text,
-    own: u32,
-    table: &mut TableDraft,
+    before: &[Element],
+    rules: &[ColumnRule],
     rest: &Rest,
-) -> Result<usize, DdlError>
-    ensures exact { spec.Leaves result table.new (spec.own_primary text.now own table.old rest.now) }
-    ensures within { IfOk result (λ n. (1 ≤ n) × (n ≤ length rest.now)) }
+) -> Result<(ColumnRule, usize), DdlError>
+    ensures exact { Gives result (spec.own_primary text.now before.now rules.now rest.now) }
+    ensures within { IfOk result (λ x. (1 ≤ x.1) × (x.1 ≤ length rest.now)) }
 {
     let n = word(text, &rest.after(1), b"key")?;
-    if has_primary(table) {
+    if has_primary(before) || has_own_primary(rules) {
         return Err(text.no(DdlFault::SecondPrimaryKey, rest));
     }
-    add_key(table, ColumnList::Own(own), true)?;
-    Ok(1 + n)
-}
-
-// REFERENCES at a column.
-#[tactic(auto, unfolding(crate::specs::Reading::own_reference))]
-fn own_reference(
-    alloc: Global,
-    text: &Text,
-    own: u32,
-    table: &mut TableDraft,
-    rest: &Rest,
-) -> Result<usize, DdlError>
-    ensures exact { spec.Leaves result table.new (spec.own_reference text.now own table.old rest.now) }
-    ensures within { 1 ≤ length rest.now → IfOk result (λ n. (1 ≤ n) × (n ≤ length rest.now)) }
-{
-    let (target, n) = target(alloc, text, &rest.after(1))?;
-    add_reference(table, ColumnList::Own(own), target)?;
-    Ok(1 + n)
+    Ok((ColumnRule::PrimaryKey, 1 + n))
 }
 
 // The rule of a column, behind its name.
@@ -113,103 +101,127 @@ fn own_reference(
 fn bare_rule(
     alloc: Global,
     text: &Text,
-    own: u32,
-    table: &mut TableDraft,
+    before: &[Element],
+    rules: &[ColumnRule],
     rest: &Rest,
-) -> Result<usize, DdlError>
-    ensures exact { spec.Leaves result table.new (spec.bare_rule text.now own table.old rest.now) }
-    ensures within { IfOk result (λ n. (1 ≤ n) × (n ≤ length rest.now)) }
+) -> Result<(ColumnRule, usize), DdlError>
+    ensures exact { Gives result (spec.bare_rule text.now before.now rules.now rest.now) }
+    ensures within { IfOk result (λ x. (1 ≤ x.1) × (x.1 ≤ length rest.now)) }
 {
     if text.at_word(rest, b"not") {
         let n = word(text, &rest.after(1), b"null")?;
-        table.not_null = true;
-        return Ok(1 + n);
+        return Ok((ColumnRule::NotNull, 1 + n));
     }
     if text.at_word(rest, b"null") {
-        return Ok(1);
+        return Ok((ColumnRule::Null, 1));
     }
     if text.at_word(rest, b"primary") {
-        return own_primary(text, own, table, rest);
+        return own_primary(text, before, rules, rest);
     }
     if text.at_word(rest, b"unique") {
-        add_key(table, ColumnList::Own(own), false)?;
-        return Ok(1);
+        return Ok((ColumnRule::Unique, 1));
     }
     if text.at_word(rest, b"references") {
-        return own_reference(alloc, text, own, table, rest);
+        let (target, n) = target(alloc, text, &rest.after(1))?;
+        return Ok((ColumnRule::References(target), 1 + n));
     }
-    if at_some_word(rest) {
-        return Err(text.no(DdlFault::UnsupportedClause, rest));
-    }
-    Err(text.no(DdlFault::Syntax, rest))
+    Err(text.other(DdlFault::UnsupportedClause, rest))
 }
 
 #[tactic(auto, unfolding(crate::specs::Reading::rule))]
 fn rule(
     alloc: Global,
     text: &Text,
-    own: u32,
-    table: &mut TableDraft,
+    before: &[Element],
+    rules: &[ColumnRule],
     rest: &Rest,
-) -> Result<usize, DdlError>
-    ensures exact { spec.Leaves result table.new (spec.rule text.now own table.old rest.now) }
-    ensures within { IfOk result (λ n. (1 ≤ n) × (n ≤ length rest.now)) }
+) -> Result<(ColumnRule, usize), DdlError>
+    ensures exact { Gives result (spec.rule text.now before.now rules.now rest.now) }
+    ensures within { IfOk result (λ x. (1 ≤ x.1) × (x.1 ≤ length rest.now)) }
 {
     if !text.at_word(rest, b"constraint") {
-        return bare_rule(alloc, text, own, table, rest);
+        return bare_rule(alloc, text, before, rules, rest);
     }
     let a = rest.after(1);
     let (_name, n) = name(alloc, text, &a)?;
-    let m = bare_rule(alloc, text, own, table, &a.after(n))?;
-    Ok(1 + n + m)
+    let (rule, m) = bare_rule(alloc, text, before, rules, &a.after(n))?;
+    Ok((rule, 1 + n + m))
+}
+
+#[tactic(auto, unfolding(wt_reading::specs::Readings::one_more))]
+fn next_rule(
+    alloc: Global,
+    text: &Text,
+    before: &[Element],
+    rules: &mut ColumnRules,
+    rest: &Rest,
+) -> Result<usize, DdlError>
+    ensures exact { Leaves result rules.new (one_more (spec.rule text.now before.now) rules.old rest.now) }
+    ensures within { IfOk result (λ n. (1 ≤ n) × (n ≤ length rest.now)) }
+{
+    let (next, n) = rule(alloc, text, before, rules.as_slice(), rest)?;
+    rules.push(next)?;
+    Ok(n)
 }
 
 fn column_rules(
     alloc: Global,
     text: &Text,
-    own: u32,
-    table: &mut TableDraft,
+    before: &[Element],
     rest: &Rest,
-) -> Result<usize, DdlError>
-    ensures exact { spec.Leaves result table.new (spec.column_rules text.now own table.old rest.now) }
-    ensures within { IfOk result (λ n. n ≤ length rest.now) }
+) -> Result<(ColumnRules, usize), DdlError>
+    ensures exact { Gives result (spec.column_rules text.now before.now rest.now) }
+    ensures within { IfOk result (λ x. x.1 ≤ length rest.now) }
 {
+    let mut rules = ColumnRules::new(alloc);
     let mut at = 0;
     'parts: while at_some_word(&rest.after(at)) {
-        at += rule(alloc, text, own, table, &rest.after(at))?;
+        at += next_rule(alloc, text, before, &mut rules, &rest.after(at))?;
     }
-    Ok(at)
+    Ok((rules, at))
+}
+
+// The name of a column, which is new in a table that may have one more.
+#[tactic(auto, unfolding(crate::specs::Reading::column_name))]
+fn column_name(
+    alloc: Global,
+    text: &Text,
+    before: &[Element],
+    rest: &Rest,
+) -> Result<(Named, usize), DdlError>
+    ensures exact { Gives result (spec.column_name text.now before.now rest.now) }
+    ensures one { IfOk result (λ x. (x.1 ≡ 1) × (1 ≤ length rest.now)) }
+{
+    let (named, n) = name(alloc, text, rest)?;
+    if has_column(before, &named.name) {
+        return Err(DdlError::Fault(DdlFault::DuplicateColumn, named.at));
+    }
+    if width(before) >= MOST_COLUMNS {
+        return Err(DdlError::Fault(DdlFault::TooManyColumns, named.at));
+    }
+    Ok((named, n))
 }
 
 #[tactic(auto, unfolding(crate::specs::Reading::column))]
 fn column(
     alloc: Global,
     text: &Text,
-    table: &mut TableDraft,
+    before: &[Element],
     rest: &Rest,
-) -> Result<usize, DdlError>
-    ensures exact { spec.Leaves result table.new (spec.column text.now table.old rest.now) }
-    ensures within { IfOk result (λ n. n ≤ length rest.now) }
+) -> Result<(ColumnPart, usize), DdlError>
+    ensures exact { Gives result (spec.column text.now before.now rest.now) }
+    ensures within { IfOk result (λ x. x.1 ≤ length rest.now) }
 {
-    let (named, n) = name(alloc, text, rest)?;
-    if has_column(table.columns.as_slice(), &named.name) {
-        return Err(DdlError::Fault(DdlFault::DuplicateColumn, named.at));
-    }
-    let own = table.columns.len();
-    if own >= MOST_COLUMNS {
-        return Err(DdlError::Fault(DdlFault::TooManyColumns, named.at));
-    }
+    let (name, n) = column_name(alloc, text, before, rest)?;
     let a = rest.after(n);
-    let (kind, m) = kind(text, &a)?;
-    table.not_null = false;
-    let k = column_rules(alloc, text, own as u32, table, &a.after(m))?;
-    add_column(table, named.name, kind)?;
-    Ok(n + m + k)
+    let (kind, m) = kind_of(text, &a)?;
+    let (rules, k) = column_rules(alloc, text, before, &a.after(m))?;
+    Ok((ColumnPart { name, kind, rules }, n + m + k))
 }
 
 #[tactic(auto, unfolding(crate::specs::Reading::behind_target))]
 fn behind_target(text: &Text, rest: &Rest) -> Result<usize, DdlError>
-    ensures exact { spec.Takes result (spec.behind_target text.now rest.now) }
+    ensures exact { Takes result (spec.behind_target text.now rest.now) }
     ensures none { IfOk result (λ n. n ≡ 0) }
 {
     if at_some_word(rest) {
@@ -222,58 +234,53 @@ fn behind_target(text: &Text, rest: &Rest) -> Result<usize, DdlError>
 fn primary_rule(
     alloc: Global,
     text: &Text,
-    table: &mut TableDraft,
+    before: &[Element],
     rest: &Rest,
-) -> Result<usize, DdlError>
-    ensures exact { spec.Leaves result table.new (spec.primary_rule text.now table.old rest.now) }
-    ensures within { IfOk result (λ n. n ≤ length rest.now) }
+) -> Result<(TableRule, usize), DdlError>
+    ensures exact { Gives result (spec.primary_rule text.now before.now rest.now) }
+    ensures within { IfOk result (λ x. x.1 ≤ length rest.now) }
 {
     let a = rest.after(1);
     let n = word(text, &a, b"key")?;
-    if has_primary(table) {
+    if has_primary(before) {
         return Err(text.no(DdlFault::SecondPrimaryKey, rest));
     }
     let (all, m) = names(alloc, text, &a.after(n))?;
-    add_key(table, ColumnList::Listed(all), true)?;
-    Ok(1 + n + m)
+    Ok((TableRule::PrimaryKey(all), 1 + n + m))
 }
 
 #[tactic(auto, unfolding(crate::specs::Reading::unique_rule))]
-fn unique_rule(
-    alloc: Global,
-    text: &Text,
-    table: &mut TableDraft,
-    rest: &Rest,
-) -> Result<usize, DdlError>
-    ensures exact { spec.Leaves result table.new (spec.unique_rule text.now table.old rest.now) }
-    ensures within { IfOk result (λ n. 1 ≤ length rest.now → n ≤ length rest.now) }
+fn unique_rule(alloc: Global, text: &Text, rest: &Rest) -> Result<(TableRule, usize), DdlError>
+    ensures exact { Gives result (spec.unique_rule text.now rest.now) }
+    ensures within { 1 ≤ length rest.now → IfOk result (λ x. x.1 ≤ length rest.now) }
 {
     let (all, n) = names(alloc, text, &rest.after(1))?;
-    add_key(table, ColumnList::Listed(all), false)?;
-    Ok(1 + n)
+    Ok((TableRule::Unique(all), 1 + n))
+}
+
+#[tactic(auto, unfolding(crate::specs::Reading::foreign_target))]
+fn foreign_target(alloc: Global, text: &Text, rest: &Rest) -> Result<(Target, usize), DdlError>
+    ensures exact { Gives result (spec.foreign_target text.now rest.now) }
+    ensures within { IfOk result (λ x. x.1 ≤ length rest.now) }
+{
+    let n = word(text, rest, b"references")?;
+    let a = rest.after(n);
+    let (target, m) = target(alloc, text, &a)?;
+    let k = behind_target(text, &a.after(m))?;
+    Ok((target, n + m + k))
 }
 
 #[tactic(auto, unfolding(crate::specs::Reading::foreign_rule))]
-fn foreign_rule(
-    alloc: Global,
-    text: &Text,
-    table: &mut TableDraft,
-    rest: &Rest,
-) -> Result<usize, DdlError>
-    ensures exact { spec.Leaves result table.new (spec.foreign_rule text.now table.old rest.now) }
-    ensures within { IfOk result (λ n. n ≤ length rest.now) }
+fn foreign_rule(alloc: Global, text: &Text, rest: &Rest) -> Result<(TableRule, usize), DdlError>
+    ensures exact { Gives result (spec.foreign_rule text.now rest.now) }
+    ensures within { IfOk result (λ x. x.1 ≤ length rest.now) }
 {
     let a = rest.after(1);
     let n = word(text, &a, b"key")?;
     let b = a.after(n);
     let (all, m) = names(alloc, text, &b)?;
-    let c = b.after(m);
-    let k = word(text, &c, b"references")?;
-    let d = c.after(k);
-    let (target, i) = target(alloc, text, &d)?;
-    let j = behind_target(text, &d.after(i))?;
-    add_reference(table, ColumnList::Listed(all), target)?;
-    Ok(1 + n + m + k + i + j)
+    let (target, k) = foreign_target(alloc, text, &b.after(m))?;
+    Ok((TableRule::ForeignKey(all, target), 1 + n + m + k))
 }
 
 fn at_table_rule(text: &Text, rest: &Rest) -> bool
@@ -289,93 +296,98 @@ fn at_table_rule(text: &Text, rest: &Rest) -> bool
 fn table_rule(
     alloc: Global,
     text: &Text,
-    table: &mut TableDraft,
+    before: &[Element],
     rest: &Rest,
-) -> Result<usize, DdlError>
-    ensures exact { spec.Leaves result table.new (spec.table_rule text.now table.old rest.now) }
-    ensures within { 1 ≤ length rest.now → IfOk result (λ n. n ≤ length rest.now) }
+) -> Result<(TableRule, usize), DdlError>
+    ensures exact { Gives result (spec.table_rule text.now before.now rest.now) }
+    ensures within { 1 ≤ length rest.now → IfOk result (λ x. x.1 ≤ length rest.now) }
 {
     if text.at_word(rest, b"primary") {
-        return primary_rule(alloc, text, table, rest);
+        return primary_rule(alloc, text, before, rest);
     }
     if text.at_word(rest, b"unique") {
-        return unique_rule(alloc, text, table, rest);
+        return unique_rule(alloc, text, rest);
     }
-    foreign_rule(alloc, text, table, rest)
+    foreign_rule(alloc, text, rest)
 }
 
+// A rule of the table behind its name.
 #[tactic(auto, unfolding(crate::specs::Reading::named_rule))]
 fn named_rule(
     alloc: Global,
     text: &Text,
-    table: &mut TableDraft,
+    before: &[Element],
     rest: &Rest,
-) -> Result<usize, DdlError>
-    ensures exact { spec.Leaves result table.new (spec.named_rule text.now table.old rest.now) }
-    ensures within { IfOk result (λ n. n ≤ length rest.now) }
+) -> Result<(TableRule, usize), DdlError>
+    ensures exact { Gives result (spec.named_rule text.now before.now rest.now) }
+    ensures within { IfOk result (λ x. x.1 ≤ length rest.now) }
 {
     if text.at_word(rest, b"check") {
         return Err(text.no(DdlFault::UnsupportedClause, rest));
     }
     if at_table_rule(text, rest) {
-        return table_rule(alloc, text, table, rest);
+        return table_rule(alloc, text, before, rest);
     }
     Err(text.no(DdlFault::Syntax, rest))
 }
 
-/// A column, or a rule of the table.
+/// A column, or a rule of the table, behind the elements that were read.
 #[tactic(auto, unfolding(crate::specs::Reading::element))]
 pub(crate) fn element(
     alloc: Global,
     text: &Text,
-    table: &mut TableDraft,
+    before: &[Element],
     rest: &Rest,
-) -> Result<usize, DdlError>
-    ensures exact { spec.Leaves result table.new (spec.element text.now table.old rest.now) }
-    ensures within { IfOk result (λ n. n ≤ length rest.now) }
+) -> Result<(Element, usize), DdlError>
+    ensures exact { Gives result (spec.element text.now before.now rest.now) }
+    ensures within { IfOk result (λ x. x.1 ≤ length rest.now) }
 {
     if text.at_word(rest, b"constraint") {
         let a = rest.after(1);
         let (_name, n) = name(alloc, text, &a)?;
-        let m = named_rule(alloc, text, table, &a.after(n))?;
-        return Ok(1 + n + m);
+        let (rule, m) = named_rule(alloc, text, before, &a.after(n))?;
+        return Ok((Element::Rule(rule), 1 + n + m));
     }
     if text.at_word(rest, b"check") {
         return Err(text.no(DdlFault::UnsupportedClause, rest));
     }
     if at_table_rule(text, rest) {
-        return table_rule(alloc, text, table, rest);
+        let (rule, n) = table_rule(alloc, text, before, rest)?;
+        return Ok((Element::Rule(rule), n));
     }
-    column(alloc, text, table, rest)
+    let (column, n) = column(alloc, text, before, rest)?;
+    Ok((Element::Column(column), n))
 }
 
 // What stands behind a comma.
-#[tactic(auto, unfolding(crate::specs::Reading::next_element))]
+#[tactic(auto, unfolding(wt_reading::specs::Readings::one_more, crate::specs::Reading::next_element))]
 fn next_element(
     alloc: Global,
     text: &Text,
-    table: &mut TableDraft,
+    all: &mut Elements,
     rest: &Rest,
 ) -> Result<usize, DdlError>
-    ensures exact { spec.Leaves result table.new (spec.next_element text.now table.old rest.now) }
+    ensures exact { Leaves result all.new (one_more (spec.next_element text.now) all.old rest.now) }
     ensures within { 1 ≤ length rest.now → IfOk result (λ n. (1 ≤ n) × (n ≤ length rest.now)) }
 {
-    Ok(1 + element(alloc, text, table, &rest.after(1))?)
+    let (next, n) = element(alloc, text, all.as_slice(), &rest.after(1))?;
+    all.push(next)?;
+    Ok(1 + n)
 }
 
 /// The elements behind the first, each with its comma.
 pub(crate) fn more_elements(
     alloc: Global,
     text: &Text,
-    table: &mut TableDraft,
+    all: &mut Elements,
     rest: &Rest,
 ) -> Result<usize, DdlError>
-    ensures exact { spec.Leaves result table.new (spec.more_elements text.now table.old rest.now) }
+    ensures exact { Leaves result all.new (spec.more_elements text.now all.old rest.now) }
     ensures within { IfOk result (λ n. n ≤ length rest.now) }
 {
     let mut at = 0;
     'parts: while at_comma(&rest.after(at)) {
-        at += next_element(alloc, text, table, &rest.after(at))?;
+        at += next_element(alloc, text, all, &rest.after(at))?;
     }
     Ok(at)
 }

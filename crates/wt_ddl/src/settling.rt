@@ -1,20 +1,15 @@
 //! The column lists of a table, at its closing parenthesis.
-ghost use Rattle.std.specs.Prelude.{◌≡◌, ◌≤◌, ◌<◌, [], length, IfSome, IfOk, IfErr, OnOk};
+ghost use Rattle.std.specs.Prelude.{◌≡◌, ◌≤◌, ◌<◌, [], ◌∷◌, length, IfOk, IfErr};
+ghost use Rattle.std.specs.List.{list_any};
+ghost use Rattle.wt_ddl.specs.Giving.{Agrees, Puts};
 ghost use Rattle.wt_ddl.specs.Settling as spec;
 
-use crate::draft::{ColumnList, Named, OpenReference, OpenReferences, Rule, TableDraft, TableRead};
 use crate::fault::{DdlError, DdlFault};
+use crate::syntax::{ColumnPart, ColumnRule, Element, Elements, Named, TableRule, Target};
+use crate::table::{OpenReference, OpenReferences, TableRead};
 use std::alloc::Global;
-use wt_schema::{Column, Key, Keys};
+use wt_schema::{Column, Columns, Key, Keys, column_number};
 use wt_value::{Cols, Name};
-
-/// The number of the column of a name.
-pub(crate) fn column_number(columns: &[Column], name: &Name) -> Option<usize>
-    ensures value { result ≡ spec.column_number columns.now name.now }
-    ensures within { IfSome result (λ n. n < length columns.now) }
-{
-    columns.iter().position(|column| column.name == *name)
-}
 
 /// Whether a number is among some.
 pub(crate) fn is_among(number: u32, numbers: &[u32]) -> bool
@@ -25,7 +20,7 @@ pub(crate) fn is_among(number: u32, numbers: &[u32]) -> bool
 
 fn list_one(columns: &[Column], numbers: &mut Cols, named: &Named) -> Result<(), DdlError>
     requires { length columns.now ≤ 64 }
-    ensures { spec.Puts result numbers.new (spec.list_one columns.now numbers.old named.now) }
+    ensures { Puts result numbers.new (spec.list_one columns.now numbers.old named.now) }
 {
     let Some(number) = column_number(columns, &named.name) else {
         return Err(DdlError::Fault(DdlFault::UnknownColumn, named.at));
@@ -38,9 +33,9 @@ fn list_one(columns: &[Column], numbers: &mut Cols, named: &Named) -> Result<(),
     Ok(())
 }
 
-fn listed(alloc: Global, columns: &[Column], names: &[Named]) -> Result<Cols, DdlError>
+fn numbers(alloc: Global, columns: &[Column], names: &[Named]) -> Result<Cols, DdlError>
     requires { length columns.now ≤ 64 }
-    ensures { spec.Agrees result (spec.in_turn (spec.list_one columns.now) [] names.now) }
+    ensures { Agrees result (spec.numbers columns.now names.now) }
 {
     let mut numbers = Cols::new(alloc);
     let mut i = 0;
@@ -51,18 +46,14 @@ fn listed(alloc: Global, columns: &[Column], names: &[Named]) -> Result<Cols, Dd
     Ok(numbers)
 }
 
-fn numbers(alloc: Global, columns: &[Column], list: &ColumnList) -> Result<Cols, DdlError>
+// The number of one column.
+fn one_number(alloc: Global, columns: &[Column], named: &Named) -> Result<Cols, DdlError>
     requires { length columns.now ≤ 64 }
-    ensures { spec.Agrees result (spec.numbers columns.now list.now) }
+    ensures { Agrees result (spec.numbers columns.now (named.now ∷ [])) }
 {
-    match list {
-        ColumnList::Own(number) => {
-            let mut numbers = Cols::new(alloc);
-            numbers.push(*number)?;
-            Ok(numbers)
-        }
-        ColumnList::Listed(names) => listed(alloc, columns, names.as_slice()),
-    }
+    let mut numbers = Cols::new(alloc);
+    list_one(columns, &mut numbers, named)?;
+    Ok(numbers)
 }
 
 /// A copy of column numbers.
@@ -73,60 +64,159 @@ pub(crate) fn copied(columns: &Cols) -> Result<Cols, DdlError>
     Ok(columns.clone()?)
 }
 
-fn add_key(table: &mut TableRead, columns: Cols, primary: bool) -> Result<(), DdlError>
-    ensures ok { OnOk result (table.new ≡ spec.with_key_by table.old primary columns) }
-    ensures err { IfErr result (λ e. e ≡ DdlError.Memory) }
+fn add_key(table: &mut TableRead, primary: bool, columns: Cols) -> Result<(), DdlError>
+    ensures { Puts result table.new (spec.with_key table.old primary columns) }
 {
-    if primary {
-        table.primary = Some(copied(&columns)?);
-    }
     table.keys.push(Key { columns, primary })?;
     Ok(())
 }
 
-fn add_rule(alloc: Global, table: &mut TableRead, rule: Rule) -> Result<(), DdlError>
+fn add_reference(table: &mut TableRead, columns: Cols, target: Target) -> Result<(), DdlError>
+    ensures { Puts result table.new (spec.with_reference table.old target columns) }
+{
+    table.references.push(OpenReference { columns, target })?;
+    Ok(())
+}
+
+// The rule of a column.
+fn add_own(
+    alloc: Global,
+    named: &Named,
+    table: &mut TableRead,
+    rule: ColumnRule,
+) -> Result<(), DdlError>
     requires { length table.old.columns ≤ 64 }
-    ensures { spec.Puts result table.new (spec.add_rule table.old rule) }
+    ensures { Puts result table.new (spec.add_own named.now table.old rule) }
 {
     match rule {
-        Rule::Key(key) => {
-            let columns = numbers(alloc, table.columns.as_slice(), &key.columns)?;
-            add_key(table, columns, key.primary)?;
+        ColumnRule::NotNull | ColumnRule::Null => Ok(()),
+        ColumnRule::PrimaryKey => {
+            let columns = one_number(alloc, table.columns.as_slice(), named)?;
+            add_key(table, true, columns)
         }
-        Rule::Reference(reference) => {
-            let columns = numbers(alloc, table.columns.as_slice(), &reference.columns)?;
-            table.references.push(OpenReference {
-                columns,
-                target: reference.target,
-            })?;
+        ColumnRule::Unique => {
+            let columns = one_number(alloc, table.columns.as_slice(), named)?;
+            add_key(table, false, columns)
+        }
+        ColumnRule::References(target) => {
+            let columns = one_number(alloc, table.columns.as_slice(), named)?;
+            add_reference(table, columns, target)
         }
     }
-    Ok(())
 }
 
-fn add_rules(alloc: Global, table: &mut TableRead, rules: Vec<Rule>) -> Result<(), DdlError>
+fn add_all_own(
+    alloc: Global,
+    named: &Named,
+    table: &mut TableRead,
+    rules: Vec<ColumnRule>,
+) -> Result<(), DdlError>
     requires { length table.old.columns ≤ 64 }
-    ensures { spec.Puts result table.new (spec.in_turn spec.add_rule table.old rules.items) }
+    ensures { Puts result table.new (spec.in_turn (spec.add_own named.now) table.old rules.items) }
 {
     for rule in rules {
-        add_rule(alloc, table, rule)?;
+        add_own(alloc, named, table, rule)?;
     }
     Ok(())
 }
 
-/// The table with its keys and references by column numbers.
+fn add_rule(alloc: Global, table: &mut TableRead, rule: TableRule) -> Result<(), DdlError>
+    requires { length table.old.columns ≤ 64 }
+    ensures { Puts result table.new (spec.add_rule table.old rule) }
+{
+    match rule {
+        TableRule::PrimaryKey(names) => {
+            let columns = numbers(alloc, table.columns.as_slice(), names.as_slice())?;
+            add_key(table, true, columns)
+        }
+        TableRule::Unique(names) => {
+            let columns = numbers(alloc, table.columns.as_slice(), names.as_slice())?;
+            add_key(table, false, columns)
+        }
+        TableRule::ForeignKey(names, target) => {
+            let columns = numbers(alloc, table.columns.as_slice(), names.as_slice())?;
+            add_reference(table, columns, target)
+        }
+    }
+}
+
+fn add_element(alloc: Global, table: &mut TableRead, element: Element) -> Result<(), DdlError>
+    requires { length table.old.columns ≤ 64 }
+    ensures { Puts result table.new (spec.add_element table.old element) }
+{
+    match element {
+        Element::Column(ColumnPart { name, rules, .. }) => {
+            add_all_own(alloc, &name, table, rules.into_vec())
+        }
+        Element::Rule(rule) => add_rule(alloc, table, rule),
+    }
+}
+
+fn add_elements(
+    alloc: Global,
+    table: &mut TableRead,
+    elements: Vec<Element>,
+) -> Result<(), DdlError>
+    requires { length table.old.columns ≤ 64 }
+    ensures { Puts result table.new (spec.in_turn spec.add_element table.old elements.items) }
+{
+    for element in elements {
+        add_element(alloc, table, element)?;
+    }
+    Ok(())
+}
+
+fn is_not_null(rule: &ColumnRule) -> bool
+    ensures { result ≡ spec.is_not_null rule.now }
+{
+    matches!(rule, ColumnRule::NotNull)
+}
+
+fn has_not_null(rules: &[ColumnRule]) -> bool
+    ensures { result ≡ list_any spec.is_not_null rules.now }
+{
+    rules.iter().any(is_not_null)
+}
+
+// The column itself. Its name is copied, since its rules stand at it too.
+fn column_of(column: &ColumnPart) -> Result<Column, DdlError>
+    ensures ok { IfOk result (λ c. c ≡ spec.column_of column.now) }
+    ensures err { IfErr result (λ e. e ≡ DdlError.Memory) }
+{
+    Ok(Column {
+        name: column.name.name.clone()?,
+        kind: column.kind,
+        not_null: has_not_null(column.rules.as_slice()),
+    })
+}
+
+fn columns_of(alloc: Global, elements: &[Element]) -> Result<Columns, DdlError>
+    ensures ok { IfOk result (λ columns. columns ≡ spec.columns_of elements.now) }
+    ensures err { IfErr result (λ e. e ≡ DdlError.Memory) }
+{
+    let mut columns = Columns::new(alloc);
+    let mut i = 0;
+    'elements: while i < elements.len() {
+        if let Element::Column(column) = &elements[i] {
+            columns.push(column_of(column)?)?;
+        }
+        i += 1;
+    }
+    Ok(columns)
+}
+
+/// The table of these elements, with its keys and references by column numbers.
 #[tactic(auto, unfolding(crate::specs::Settling::settled))]
-pub(crate) fn settled(alloc: Global, draft: TableDraft) -> Result<TableRead, DdlError>
-    requires { length draft.columns ≤ 64 }
-    ensures { spec.Agrees result (spec.settled draft) }
+pub(crate) fn settled(alloc: Global, name: Name, elements: Elements) -> Result<TableRead, DdlError>
+    requires { length (spec.columns_of elements) ≤ 64 }
+    ensures { Agrees result (spec.settled name elements) }
 {
     let mut table = TableRead {
-        name: draft.name,
-        columns: draft.columns,
+        name,
+        columns: columns_of(alloc, elements.as_slice())?,
         keys: Keys::new(alloc),
-        primary: None,
         references: OpenReferences::new(alloc),
     };
-    add_rules(alloc, &mut table, draft.rules.into_vec())?;
+    add_elements(alloc, &mut table, elements.into_vec())?;
     Ok(table)
 }

@@ -1,16 +1,18 @@
 //! Statements, and the bodies of tables.
 ghost use Rattle.std.specs.Prelude.{◌≡◌, ◌≤◌, [], length, true, IfOk};
+ghost use Rattle.wt_ddl.specs.Giving.{Gives, Leaves, Takes};
 ghost use Rattle.wt_ddl.specs.Reading as spec;
+ghost use Rattle.wt_reading.specs.Readings.{one_more, repeat};
 
-use crate::draft::{TableDraft, TableRead, TablesRead};
 use crate::fault::{DdlError, DdlFault};
 use crate::names::{close, name, open, semi, word};
 use crate::rest::{Rest, Text, at_semi, is_end};
 use crate::rules::{element, more_elements};
 use crate::settling::settled;
+use crate::syntax::Elements;
+use crate::table::{TableRead, TablesRead};
 use std::alloc::Global;
-use wt_schema::Columns;
-use wt_value::{Name, Seq};
+use wt_value::Name;
 
 /// The greatest number of tables.
 const MOST_TABLES: usize = 256;
@@ -21,18 +23,23 @@ fn has_table(tables: &[TableRead], name: &Name) -> bool
     tables.iter().any(|table| table.name == *name)
 }
 
-fn empty_draft(alloc: Global, name: Name) -> TableDraft
-    ensures { result ≡ spec.empty_draft name }
+// The elements of a table in parentheses.
+#[tactic(auto, unfolding(crate::specs::Reading::elements_of))]
+fn elements_of(alloc: Global, text: &Text, rest: &Rest) -> Result<(Elements, usize), DdlError>
+    ensures exact { Gives result (spec.elements_of text.now rest.now) }
+    ensures within { IfOk result (λ x. x.1 ≤ length rest.now) }
 {
-    TableDraft {
-        name,
-        columns: Columns::new(alloc),
-        rules: Seq::new(alloc),
-        not_null: false,
-    }
+    let a = rest.after(open(text, rest)?);
+    let (first, n) = element(alloc, text, &[], &a)?;
+    let mut all = Elements::new(alloc);
+    all.push(first)?;
+    let b = a.after(n);
+    let m = more_elements(alloc, text, &mut all, &b)?;
+    let k = close(text, &b.after(m))?;
+    Ok((all, 1 + n + m + k))
 }
 
-// The elements of a table in parentheses.
+// The table of these elements.
 #[tactic(auto, unfolding(crate::specs::Reading::body))]
 fn body(
     alloc: Global,
@@ -40,22 +47,16 @@ fn body(
     table: Name,
     rest: &Rest,
 ) -> Result<(TableRead, usize), DdlError>
-    ensures exact { spec.Gives result (spec.body text.now table rest.now) }
+    ensures exact { Gives result (spec.body text.now table rest.now) }
     ensures within { IfOk result (λ x. x.1 ≤ length rest.now) }
 {
-    let mut draft = empty_draft(alloc, table);
-    let a = rest.after(open(text, rest)?);
-    let n = element(alloc, text, &mut draft, &a)?;
-    let b = a.after(n);
-    let m = more_elements(alloc, text, &mut draft, &b)?;
-    let k = close(text, &b.after(m))?;
-    let read = settled(alloc, draft)?;
-    Ok((read, 1 + n + m + k))
+    let (elements, n) = elements_of(alloc, text, rest)?;
+    Ok((settled(alloc, table, elements)?, n))
 }
 
 #[tactic(auto, unfolding(crate::specs::Reading::ending))]
 fn ending(text: &Text, rest: &Rest) -> Result<usize, DdlError>
-    ensures exact { spec.Takes result (spec.ending text.now rest.now) }
+    ensures exact { Takes result (spec.ending text.now rest.now) }
     ensures within { IfOk result (λ n. n ≤ length rest.now) }
 {
     if is_end(rest) {
@@ -66,7 +67,7 @@ fn ending(text: &Text, rest: &Rest) -> Result<usize, DdlError>
 
 #[tactic(auto, unfolding(crate::specs::Reading::if_not_exists))]
 fn if_not_exists(text: &Text, rest: &Rest) -> Result<usize, DdlError>
-    ensures exact { spec.Takes result (spec.if_not_exists text.now rest.now) }
+    ensures exact { Takes result (spec.if_not_exists text.now rest.now) }
     ensures within { IfOk result (λ n. n ≤ length rest.now) }
 {
     if text.at_word(rest, b"if") && text.at_word(&rest.after(1), b"not") {
@@ -75,31 +76,60 @@ fn if_not_exists(text: &Text, rest: &Rest) -> Result<usize, DdlError>
     Ok(0)
 }
 
-// What stands behind CREATE TABLE.
-#[tactic(auto, unfolding(crate::specs::Reading::create))]
-fn create(
+// The name of a table, which is new where there may be one more.
+#[tactic(auto, unfolding(crate::specs::Reading::table_name))]
+fn table_name(
     alloc: Global,
     text: &Text,
-    tables: &mut TablesRead,
+    tables: &[TableRead],
     rest: &Rest,
-) -> Result<usize, DdlError>
-    ensures exact { spec.Leaves result tables.new (spec.create text.now tables.old rest.now) }
-    ensures within { IfOk result (λ n. n ≤ length rest.now) }
+) -> Result<(Name, usize), DdlError>
+    ensures exact { Gives result (spec.table_name text.now tables.now rest.now) }
+    ensures one { IfOk result (λ x. (x.1 ≡ 1) × (1 ≤ length rest.now)) }
 {
-    let n = if_not_exists(text, rest)?;
-    let a = rest.after(n);
-    let (named, m) = name(alloc, text, &a)?;
-    if has_table(tables.as_slice(), &named.name) {
+    let (named, n) = name(alloc, text, rest)?;
+    if has_table(tables, &named.name) {
         return Err(DdlError::Fault(DdlFault::DuplicateTable, named.at));
     }
     if tables.len() >= MOST_TABLES {
         return Err(DdlError::Fault(DdlFault::TooManyTables, named.at));
     }
+    Ok((named.name, n))
+}
+
+// What stands behind CREATE TABLE.
+#[tactic(auto, unfolding(crate::specs::Reading::create))]
+fn create(
+    alloc: Global,
+    text: &Text,
+    tables: &[TableRead],
+    rest: &Rest,
+) -> Result<(TableRead, usize), DdlError>
+    ensures exact { Gives result (spec.create text.now tables.now rest.now) }
+    ensures within { IfOk result (λ x. x.1 ≤ length rest.now) }
+{
+    let n = if_not_exists(text, rest)?;
+    let a = rest.after(n);
+    let (name, m) = table_name(alloc, text, tables, &a)?;
     let b = a.after(m);
-    let (table, k) = body(alloc, text, named.name, &b)?;
+    let (table, k) = body(alloc, text, name, &b)?;
     let i = ending(text, &b.after(k))?;
+    Ok((table, n + m + k + i))
+}
+
+#[tactic(auto, unfolding(wt_reading::specs::Readings::one_more))]
+fn next_table(
+    alloc: Global,
+    text: &Text,
+    tables: &mut TablesRead,
+    rest: &Rest,
+) -> Result<usize, DdlError>
+    ensures exact { Leaves result tables.new (one_more (spec.create text.now) tables.old rest.now) }
+    ensures within { IfOk result (λ n. n ≤ length rest.now) }
+{
+    let (table, n) = create(alloc, text, tables.as_slice(), rest)?;
     tables.push(table)?;
-    Ok(n + m + k + i)
+    Ok(n)
 }
 
 #[tactic(auto, unfolding(crate::specs::Reading::statement))]
@@ -109,14 +139,14 @@ fn statement(
     tables: &mut TablesRead,
     rest: &Rest,
 ) -> Result<usize, DdlError>
-    ensures exact { spec.Leaves result tables.new (spec.statement text.now tables.old rest.now) }
+    ensures exact { Leaves result tables.new (spec.statement text.now tables.old rest.now) }
     ensures within { IfOk result (λ n. (1 ≤ n) × (n ≤ length rest.now)) }
 {
     if at_semi(rest) {
         return Ok(1);
     }
     if text.at_word(rest, b"create") && text.at_word(&rest.after(1), b"table") {
-        return Ok(2 + create(alloc, text, tables, &rest.after(2))?);
+        return Ok(2 + next_table(alloc, text, tables, &rest.after(2))?);
     }
     Err(text.no(DdlFault::UnsupportedStatement, rest))
 }
@@ -127,7 +157,7 @@ pub(crate) fn statements(
     text: &Text,
     rest: &Rest,
 ) -> Result<(TablesRead, usize), DdlError>
-    ensures { spec.Gives result (spec.statements text.now rest.now) }
+    ensures { Gives result (spec.statements text.now rest.now) }
 {
     let mut tables = TablesRead::new(alloc);
     let n = more_statements(alloc, text, &mut tables, rest)?;
@@ -140,7 +170,7 @@ fn more_statements(
     tables: &mut TablesRead,
     rest: &Rest,
 ) -> Result<usize, DdlError>
-    ensures exact { spec.Leaves result tables.new (spec.more_statements text.now tables.old rest.now) }
+    ensures exact { Leaves result tables.new (repeat spec.some_left (spec.statement text.now) 0 tables.old rest.now) }
     ensures within { IfOk result (λ n. n ≤ length rest.now) }
 {
     let mut at = 0;

@@ -1,16 +1,17 @@
 //! The target of a reference, with its options.
 ghost use Rattle.std.specs.Prelude.{◌≡◌, ◌≤◌, length, true, IfOk};
+ghost use Rattle.wt_ddl.specs.Giving.{Gives, Takes};
 ghost use Rattle.wt_ddl.specs.Reading as spec;
 
-use crate::draft::{NamedList, Target};
 use crate::fault::{DdlError, DdlFault};
 use crate::names::{name, names, word};
-use crate::rest::{Rest, Text, at_open, at_some_word};
+use crate::rest::{Rest, Text, at_open};
+use crate::syntax::{NamedList, Target};
 use std::alloc::Global;
 
 #[tactic(auto, unfolding(crate::specs::Reading::null_action))]
 fn null_action(text: &Text, rest: &Rest) -> Result<usize, DdlError>
-    ensures exact { spec.Takes result (spec.null_action text.now rest.now) }
+    ensures exact { Takes result (spec.null_action text.now rest.now) }
     ensures within { IfOk result (λ n. n ≤ length rest.now) }
 {
     if text.at_word(rest, b"null") {
@@ -24,7 +25,7 @@ fn null_action(text: &Text, rest: &Rest) -> Result<usize, DdlError>
 
 #[tactic(auto, unfolding(crate::specs::Reading::action))]
 fn action(text: &Text, rest: &Rest) -> Result<usize, DdlError>
-    ensures exact { spec.Takes result (spec.action text.now rest.now) }
+    ensures exact { Takes result (spec.action text.now rest.now) }
     ensures within { IfOk result (λ n. n ≤ length rest.now) }
 {
     if text.at_word(rest, b"cascade") || text.at_word(rest, b"restrict") {
@@ -41,7 +42,7 @@ fn action(text: &Text, rest: &Rest) -> Result<usize, DdlError>
 
 #[tactic(auto, unfolding(crate::specs::Reading::event))]
 fn event(text: &Text, rest: &Rest) -> Result<usize, DdlError>
-    ensures exact { spec.Takes result (spec.event text.now rest.now) }
+    ensures exact { Takes result (spec.event text.now rest.now) }
     ensures within { IfOk result (λ n. n ≤ length rest.now) }
 {
     if text.at_word(rest, b"delete") || text.at_word(rest, b"update") {
@@ -52,16 +53,13 @@ fn event(text: &Text, rest: &Rest) -> Result<usize, DdlError>
 
 #[tactic(auto, unfolding(crate::specs::Reading::simple))]
 fn simple(text: &Text, rest: &Rest) -> Result<usize, DdlError>
-    ensures exact { spec.Takes result (spec.simple text.now rest.now) }
+    ensures exact { Takes result (spec.simple text.now rest.now) }
     ensures within { IfOk result (λ n. n ≤ length rest.now) }
 {
     if text.at_word(rest, b"simple") {
         return Ok(1);
     }
-    if at_some_word(rest) {
-        return Err(text.no(DdlFault::UnsupportedClause, rest));
-    }
-    Err(text.no(DdlFault::Syntax, rest))
+    Err(text.other(DdlFault::UnsupportedClause, rest))
 }
 
 fn at_option(text: &Text, rest: &Rest) -> bool
@@ -73,7 +71,7 @@ fn at_option(text: &Text, rest: &Rest) -> bool
 // What begins with MATCH or ON.
 #[tactic(auto, unfolding(crate::specs::Reading::option))]
 fn option(text: &Text, rest: &Rest) -> Result<usize, DdlError>
-    ensures exact { spec.Takes result (spec.option text.now tt rest.now) }
+    ensures exact { Takes result (spec.option text.now tt rest.now) }
     ensures within { spec.at_option text.now rest.now ≡ true → IfOk result (λ n. (1 ≤ n) × (n ≤ length rest.now)) }
 {
     if text.at_word(rest, b"match") {
@@ -83,7 +81,7 @@ fn option(text: &Text, rest: &Rest) -> Result<usize, DdlError>
 }
 
 fn options(text: &Text, rest: &Rest) -> Result<usize, DdlError>
-    ensures exact { spec.Takes result (spec.options text.now rest.now) }
+    ensures exact { Takes result (spec.options text.now rest.now) }
     ensures within { IfOk result (λ n. n ≤ length rest.now) }
 {
     let mut at = 0;
@@ -99,7 +97,7 @@ fn target_names(
     text: &Text,
     rest: &Rest,
 ) -> Result<(Option<NamedList>, usize), DdlError>
-    ensures exact { spec.Gives result (spec.target_names text.now rest.now) }
+    ensures exact { Gives result (spec.target_names text.now rest.now) }
     ensures within { IfOk result (λ x. x.1 ≤ length rest.now) }
 {
     if !at_open(rest) {
@@ -112,7 +110,7 @@ fn target_names(
 /// A table's name, and its columns and options where they stand.
 #[tactic(auto, unfolding(crate::specs::Reading::target))]
 pub(crate) fn target(alloc: Global, text: &Text, rest: &Rest) -> Result<(Target, usize), DdlError>
-    ensures exact { spec.Gives result (spec.target text.now rest.now) }
+    ensures exact { Gives result (spec.target text.now rest.now) }
     ensures within { IfOk result (λ x. x.1 ≤ length rest.now) }
 {
     let (table, n) = name(alloc, text, rest)?;

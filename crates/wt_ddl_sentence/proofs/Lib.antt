@@ -1,8 +1,8 @@
-pub mod Readings
-pub mod Words
-pub mod Targets
 pub mod Elements
+pub mod Plain
+pub mod Readings
 pub mod Settling
 pub mod Statements
-pub mod Plain
+pub mod Targets
 pub mod Texts
+pub mod Words

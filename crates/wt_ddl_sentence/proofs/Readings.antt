@@ -1,170 +1,174 @@
--- Readings put together: a part that is followed by another, a token in front, and loops.
-use Rattle.std.proofs.Common.{◌≡◌, ℕ, zero, suc, ◌+◌, ◌-◌, ◌≤◌, Bool, true, false, List, [], ◌∷◌, ◌++◌, length, drop, refl, ap, sym, ◌∙◌, subst, arith, length-append, append_assoc, add-zero, Ok, Err}
+-- Readings put together: each sentence is read to its end, with its value, or refused for names.
+use Rattle.std.proofs.Common.{◌≡◌, ℕ, ◌+◌, ◌≤◌, Bool, true, false, List, [], ◌∷◌, ◌++◌, length, drop, refl, ap, sym, ◌∙◌, subst, arith, length-append, append_assoc, add-zero, append-nil, Ok, Err}
 use Rattle.std.specs.Prelude.{if◌then◌else◌}
 use Rattle.std.proofs.Math.Seq.{drop-append_seam}
-use Rattle.wt_lex.specs.declared.token.Token.{Token}
-use Rattle.wt_ddl.specs.Fronts.{Tokens}
-use Rattle.wt_ddl.specs.Grammar.{Part, Then, Many, Pieces}
-use Rattle.wt_ddl.specs.Reading.{Read, plus, followed, onward, repeat}
+use Rattle.wt_reading.specs.declared.lexeme.Lexeme.{Lexeme}
+use Rattle.wt_reading.specs.Lexemes.{Tokens}
+use Rattle.wt_reading.specs.Readings.{plus, followed, repeat, one_more}
+use Rattle.wt_reading.specs.Sentences.{Each}
+use Rattle.wt_reading.proofs.Loops.{repeat_stops, repeat_goes, repeat_fails}
+use Rattle.wt_ddl.specs.Reading.{Read}
 use Rattle.wt_ddl_sentence.specs.Faults.{is_of_names}
 
--- a reading took so many tokens, or was refused for names
-abbrev pub IsRead : {A : Type 0} → Read A → ℕ → Type 0
-IsRead (Ok x) n = x.1 ≡ n
-IsRead (Err e) n = is_of_names e ≡ true
-
--- what may stand behind a part
-abbrev pub Follow : Type 1
-Follow = Tokens → Type 0
-
-abbrev pub Anything : Follow
-Anything ts = Unit {0}
-
--- each sentence of a part is read to its end before what may follow it
-abbrev pub Completes : {A : Type 0} → Part → Follow → (Tokens → Read A) → Type 0
-Completes P F r = (a rest : Tokens) → P a → F rest → IsRead (r (a ++ rest)) (length a)
-
--- a sentence of the part and what may follow it begin in this way
-abbrev pub Leads : Part → Follow → Follow → Type 0
-Leads P F G = (a rest : Tokens) → P a → F rest → G (a ++ rest)
-
-pub nothing : (P : Part) (F : Follow) → Leads P F Anything
-nothing P F a rest p f = tt
+-- a reading gave this value and took so many tokens, or was refused for names
+abbrev pub IsRead : {A : Type 0} → A → ℕ → Read A → Type 0
+IsRead x n (Ok y) = (y.0 ≡ x) × (y.1 ≡ n)
+IsRead x n (Err e) = is_of_names e.0 ≡ true
 
 -- ---- one choice
 
-pub taken : {A : Type 0} (b : Bool) (r s : Read A) (n : ℕ) → b ≡ true → IsRead r n → IsRead (if b then r else s) n
-taken b r s n e h = subst (λ t. IsRead (if t then r else s) n) (sym e) h
+pub taken : {A : Type 0} (b : Bool) (r s : Read A) (x : A) (n : ℕ) → b ≡ true → IsRead x n r → IsRead x n (if b then r else s)
+taken b r s x n e h = subst (λ t. IsRead x n (if t then r else s)) (sym e) h
 
-pub skipped : {A : Type 0} (b : Bool) (r s : Read A) (n : ℕ) → b ≡ false → IsRead s n → IsRead (if b then r else s) n
-skipped b r s n e h = subst (λ t. IsRead (if t then r else s) n) (sym e) h
+pub skipped : {A : Type 0} (b : Bool) (r s : Read A) (x : A) (n : ℕ) → b ≡ false → IsRead x n s → IsRead x n (if b then r else s)
+skipped b r s x n e h = subst (λ t. IsRead x n (if t then r else s)) (sym e) h
 
-pub both_ways : {A : Type 0} (b : Bool) (r s : Read A) (n : ℕ) → IsRead r n → IsRead s n → IsRead (if b then r else s) n
-both_ways true r s n h g = h
-both_ways false r s n h g = g
+pub both_ways : {A : Type 0} (b : Bool) (r s : Read A) (x : A) (n : ℕ) → IsRead x n r → IsRead x n s → IsRead x n (if b then r else s)
+both_ways true r s x n h g = h
+both_ways false r s x n h g = g
 
 -- ---- one part behind another
 
-plus_read : {A : Type 0} (m n : ℕ) (r : Read A) → IsRead r n → IsRead (plus m r) (m + n)
-plus_read m n (Ok x) h = ap (λ k. m + k) h
-plus_read m n (Err e) h = h
+pub plus_read : {A : Type 0} (m : ℕ) (x : A) (n : ℕ) (r : Read A) → IsRead x n r → IsRead x (m + n) (plus m r)
+plus_read m x n (Ok y) h = (h.0, ap (λ k. m + k) h.1)
+plus_read m x n (Err e) h = h
 
-followed_read : {A B : Type 0} (ts rest : Tokens) (n m : ℕ) (r : Read A) (f : A → Tokens → Read B) → drop n ts ≡ rest → IsRead r n → ((x : A) → IsRead (f x rest) m)
-    → IsRead (followed ts r f) (n + m)
-followed_read ts rest n m (Err e) f d h k = h
-followed_read ts rest n m (Ok x) f d h k =
-    let there : rest ≡ drop x.1 ts = sym d ∙ ap (λ i. drop i ts) (sym h) in
-    subst (λ i. IsRead (plus x.1 (f x.0 (drop x.1 ts))) (i + m)) h
-    (plus_read x.1 m (f x.0 (drop x.1 ts)) (subst (λ l. IsRead (f x.0 l) m) there (k x.0)))
+followed_read : {A B : Type 0} (ts rest : Tokens) (n m : ℕ) (x : A) (y : B) (r : Read A) (f : A → Tokens → Read B) → drop n ts ≡ rest → IsRead x n r → IsRead y m (f x rest) → IsRead y (n + m) (followed ts r f)
+followed_read ts rest n m x y (Err e) f d h k = h
+followed_read ts rest n m x y (Ok z) f d h k =
+    let there : rest ≡ drop z.1 ts = sym d ∙ ap (λ i. drop i ts) (sym h.1) in
+    let moved : IsRead y m (f z.0 (drop z.1 ts)) = subst (λ l. IsRead y m (f z.0 l)) there (subst (λ x. IsRead y m (f x rest)) (sym h.0) k) in
+    subst (λ i. IsRead y (i + m) (plus z.1 (f z.0 (drop z.1 ts)))) h.1 (plus_read z.1 y m (f z.0 (drop z.1 ts)) moved)
 
-pub then_read : {A B : Type 0} (P Q : Part) (F G : Follow) (r : Tokens → Read A) (f : A → Tokens → Read B) → Completes P F r → ((x : A) → Completes Q G (f x)) → Leads Q G F
-    → (a rest : Tokens) → Then P Q a → G rest → IsRead (followed (a ++ rest) (r (a ++ rest)) f) (length a)
-then_read P Q F G r f one next lead a rest (b, c, e, p, q) g =
+pub then_read : {A B : Type 0} (part : Tokens → Read A) (f : A → Tokens → Read B) (a b c rest : Tokens) (x : A) (y : B) → a ≡ b ++ c
+    → IsRead x (length b) (part (b ++ (c ++ rest))) → IsRead y (length c) (f x (c ++ rest)) → IsRead y (length a) (followed (a ++ rest) (part (a ++ rest)) f)
+then_read part f a b c rest x y e h g =
     let whole : a ++ rest ≡ b ++ (c ++ rest) = ap (λ l. l ++ rest) e ∙ append_assoc b c rest in
     let size : length b + length c ≡ length a = sym (length-append b c) ∙ sym (ap length e) in
-    subst (λ l. IsRead (followed l (r l) f) (length a)) (sym whole)
-    (subst (IsRead (followed (b ++ (c ++ rest)) (r (b ++ (c ++ rest))) f)) size
-    (followed_read (b ++ (c ++ rest)) (c ++ rest) (length b) (length c) (r (b ++ (c ++ rest))) f (drop-append_seam b (c ++ rest)) (one b (c ++ rest) p (lead c rest q g)) (λ x. next x c rest q g)))
+    subst (λ l. IsRead y (length a) (followed l (part l) f)) (sym whole)
+    (subst (λ n. IsRead y n (followed (b ++ (c ++ rest)) (part (b ++ (c ++ rest))) f)) size
+    (followed_read (b ++ (c ++ rest)) (c ++ rest) (length b) (length c) x y (part (b ++ (c ++ rest))) f (drop-append_seam b (c ++ rest)) h g))
 
 -- a part behind which nothing more is taken
-pub end_read : {A B : Type 0} (P : Part) (F : Follow) (r : Tokens → Read A) (f : A → Tokens → Read B) → Completes P F r → ((x : A) (ts : Tokens) → F ts → IsRead (f x ts) 0)
-    → (a rest : Tokens) → P a → F rest → IsRead (followed (a ++ rest) (r (a ++ rest)) f) (length a)
-end_read P F r f one next a rest p g =
-    subst (IsRead (followed (a ++ rest) (r (a ++ rest)) f)) (add-zero (length a))
-    (followed_read (a ++ rest) rest (length a) 0 (r (a ++ rest)) f (drop-append_seam a rest) (one a rest p g) (λ x. next x rest g))
+pub end_read : {A B : Type 0} (part : Tokens → Read A) (f : A → Tokens → Read B) (a rest : Tokens) (x : A) (y : B)
+    → IsRead x (length a) (part (a ++ rest)) → IsRead y 0 (f x rest) → IsRead y (length a) (followed (a ++ rest) (part (a ++ rest)) f)
+end_read part f a rest x y h g =
+    subst (λ n. IsRead y n (followed (a ++ rest) (part (a ++ rest)) f)) (add-zero (length a))
+    (followed_read (a ++ rest) rest (length a) 0 x y (part (a ++ rest)) f (drop-append_seam a rest) h g)
 
--- ---- one token in front
+-- a reading that gives what was read, or a value of it
+pub last_read : {A B : Type 0} (part : Tokens → Read A) (f : A → B) (a rest : Tokens) (x : A) → IsRead x (length a) (part (a ++ rest)) → IsRead (f x) (length a) (followed (a ++ rest) (part (a ++ rest)) (λ x r. Ok (f x, 0)))
+last_read part f a rest x h = end_read part (λ x r. Ok (f x, 0)) a rest x (f x) h (refl, refl)
 
--- a part that is one token
-abbrev pub IsOne : Part → Type 0
-IsOne P = (a : Tokens) → P a → (t : Token) × (a ≡ t ∷ [])
+-- behind one token, and behind two
+pub first_read : {A : Type 0} (r : Tokens → Read A) (a b rest : Tokens) (t : Lexeme) (x : A) → a ≡ t ∷ b → IsRead x (length b) (r (b ++ rest)) → IsRead x (length a) (plus 1 (r (drop 1 (a ++ rest))))
+first_read r a b rest t x e h =
+    let size : 1 + length b ≡ length a = omega (arith, ap length e) in
+    subst (λ l. IsRead x (length a) (plus 1 (r (drop 1 (l ++ rest))))) (sym e) (subst (λ n. IsRead x n (plus 1 (r (b ++ rest)))) size (plus_read 1 x (length b) (r (b ++ rest)) h))
 
-pub then_some : (P Q : Part) → IsOne P → (a : Tokens) → Then P Q a → 1 ≤ length a
-then_some P Q one a (b, c, e, p, q) = let (t, f) = one b p in omega (arith, ap length e, ap length f, length-append b c)
+pub two_read : {A : Type 0} (r : Tokens → Read A) (a b rest : Tokens) (t u : Lexeme) (x : A) → a ≡ t ∷ u ∷ b → IsRead x (length b) (r (b ++ rest)) → IsRead x (length a) (plus 2 (r (drop 2 (a ++ rest))))
+two_read r a b rest t u x e h =
+    let size : 2 + length b ≡ length a = omega (arith, ap length e) in
+    subst (λ l. IsRead x (length a) (plus 2 (r (drop 2 (l ++ rest))))) (sym e) (subst (λ n. IsRead x n (plus 2 (r (b ++ rest)))) size (plus_read 2 x (length b) (r (b ++ rest)) h))
 
-pub first_read : {A : Type 0} (P Q : Part) (G : Follow) (r : Tokens → Read A) → IsOne P → Completes Q G r
-    → (a rest : Tokens) → Then P Q a → G rest → IsRead (plus 1 (r (drop 1 (a ++ rest)))) (length a)
-first_read P Q G r one next a rest (b, c, e, p, q) g =
-    let (t, f) = one b p in
-    let whole : a ≡ t ∷ c = e ∙ ap (λ l. l ++ c) f in
-    let size : 1 + length c ≡ length a = omega (arith, ap length whole) in
-    subst (λ l. IsRead (plus 1 (r (drop 1 (l ++ rest)))) (length a)) (sym whole)
-    (subst (IsRead (plus 1 (r (c ++ rest)))) size (plus_read 1 (length c) (r (c ++ rest)) (next c rest q g)))
+-- ---- lists and loops
 
-pub first_then_read : {A B : Type 0} (P Q R : Part) (F G : Follow) (r : Tokens → Read A) (f : A → Tokens → Read B) → IsOne P → Completes Q F r → ((x : A) → Completes R G (f x)) → Leads R G F
-    → (a rest : Tokens) → Then P (Then Q R) a → G rest → IsRead (plus 1 (followed (drop 1 (a ++ rest)) (r (drop 1 (a ++ rest))) f)) (length a)
-first_then_read P Q R F G r f one next last lead = first_read P (Then Q R) G (λ l. followed l (r l) f) one (then_read Q R F G r f next last lead)
-
-pub first_end_read : {A B : Type 0} (P Q : Part) (F : Follow) (r : Tokens → Read A) (f : A → Tokens → Read B) → IsOne P → Completes Q F r → ((x : A) (ts : Tokens) → F ts → IsRead (f x ts) 0)
-    → (a rest : Tokens) → Then P Q a → F rest → IsRead (plus 1 (followed (drop 1 (a ++ rest)) (r (drop 1 (a ++ rest))) f)) (length a)
-first_end_read P Q F r f one next last = first_read P Q F (λ l. followed l (r l) f) one (end_read Q F r f next last)
-
-pub two_read : {A : Type 0} (P Q R : Part) (G : Follow) (r : Tokens → Read A) → IsOne P → IsOne Q → Completes R G r
-    → (a rest : Tokens) → Then P (Then Q R) a → G rest → IsRead (plus 2 (r (drop 2 (a ++ rest)))) (length a)
-two_read P Q R G r one two next a rest (b, c, e, p, (d, k, e', q, s)) g =
-    let (t, f) = one b p in
-    let (u, f') = two d q in
-    let whole : a ≡ t ∷ u ∷ k = e ∙ (λ i. f i ++ (e' ∙ ap (λ l. l ++ k) f') i) in
-    let size : 2 + length k ≡ length a = omega (arith, ap length whole) in
-    subst (λ l. IsRead (plus 2 (r (drop 2 (l ++ rest)))) (length a)) (sym whole)
-    (subst (IsRead (plus 2 (r (k ++ rest)))) size (plus_read 2 (length k) (r (k ++ rest)) (next k rest s g)))
-
--- ---- how a part and what follows it begin
-
-pub leads_then : (P Q : Part) (F G H : Follow) → Leads P F H → Leads Q G F → Leads (Then P Q) G H
-leads_then P Q F G H one next a rest (b, c, e, p, q) g =
-    subst H (sym (ap (λ l. l ++ rest) e ∙ append_assoc b c rest)) (one b (c ++ rest) p (next c rest q g))
-
-pub leads_many : (P : Part) (F G : Follow) → Leads P F F → ((ts : Tokens) → G ts → F ts) → Leads (Many P) G F
-leads_many P F G each last a rest (pieces, all) g = by pieces a all
-  where
-    by : (pieces : List Tokens) (a : Tokens) → Pieces P pieces a → F (a ++ rest)
-    by [] a e = subst (λ l. F (l ++ rest)) (sym e) (last rest g)
-    by (p ∷ ps) a (b, e, h, others) = subst F (sym (ap (λ l. l ++ rest) e ∙ append_assoc p b rest)) (each p (b ++ rest) h (by ps b others))
-
--- ---- loops
-
-module _ {A : Type 0} (test : Tokens → Bool) (part : A → Tokens → Read A) where
-  skip : (k : ℕ) (x : A) (ts : Tokens) → repeat test part k x ts ≡ repeat test part 0 x (drop k ts)
-  unfolding repeat
-  skip zero x ts = refl
-  skip (suc k) x [] = refl
-  skip (suc k) x (t ∷ ts) = skip k x ts
-
-  stops : (x : A) (ts : Tokens) → test ts ≡ false → IsRead (repeat test part 0 x ts) 0
-  unfolding repeat
-  stops x [] h = refl
-  stops x (t ∷ ts) h = rw h refl
-
-  pub repeat_step : (x : A) (a rest : Tokens) (n : ℕ) → 1 ≤ length a → test (a ++ rest) ≡ true → IsRead (part x (a ++ rest)) (length a) → ((y : A) → IsRead (repeat test part 0 y rest) n)
-      → IsRead (repeat test part 0 x (a ++ rest)) (length a + n)
-  unfolding repeat
-  repeat_step x [] rest n some h one next = absurd (omega arith)
-  repeat_step x (t ∷ us) rest n some h one next = rw h (by (part x (t ∷ (us ++ rest))) one)
+module _ {A : Type 0} (test : Tokens → Bool) (part : A → Tokens → Read A) (some : (ts : Tokens) → test ts ≡ true → 1 ≤ length ts) where
+  -- one part more, and the others behind it
+  pub repeat_step : (x y z : A) (a rest : Tokens) (n : ℕ) → 1 ≤ length a → test (a ++ rest) ≡ true → IsRead y (length a) (part x (a ++ rest)) → IsRead z n (repeat test part 0 y rest)
+      → IsRead z (length a + n) (repeat test part 0 x (a ++ rest))
+  repeat_step x y z a rest n there h one next = by (part x (a ++ rest)) refl one
     where
-      by : (r : Read A) → IsRead r (length (t ∷ us)) → IsRead (onward r (λ b m. repeat test part (m - 1) b (us ++ rest))) (length (t ∷ us) + n)
-      by (Err e) k = k
-      by (Ok y) k =
-          let left : y.1 - 1 ≡ length us = omega (arith, k) in
-          let there : repeat test part 0 y.0 rest ≡ repeat test part (y.1 - 1) y.0 (us ++ rest) =
-          ap (repeat test part 0 y.0) (sym (drop-append_seam us rest)) ∙ sym (skip (length us) y.0 (us ++ rest)) ∙ ap (λ i. repeat test part i y.0 (us ++ rest)) (sym left) in
-          subst (λ i. IsRead (plus y.1 (repeat test part (y.1 - 1) y.0 (us ++ rest))) (i + n)) k
-          (plus_read y.1 n (repeat test part (y.1 - 1) y.0 (us ++ rest)) (subst (λ r. IsRead r n) there (next y.0)))
+      by : (r : Read A) → part x (a ++ rest) ≡ r → IsRead y (length a) r → IsRead z (length a + n) (repeat test part 0 x (a ++ rest))
+      by (Err e) f k = subst (IsRead z (length a + n)) (sym (repeat_fails test part some x (a ++ rest) e h f)) k
+      by (Ok w) f k =
+          let positive : 1 ≤ w.1 = omega (arith, k.1) in
+          let left : drop w.1 (a ++ rest) ≡ rest = ap (λ i. drop i (a ++ rest)) k.1 ∙ drop-append_seam a rest in
+          let others : IsRead z n (repeat test part 0 w.0 (drop w.1 (a ++ rest))) = subst (λ l. IsRead z n (repeat test part 0 w.0 l)) (sym left) (subst (λ y. IsRead z n (repeat test part 0 y rest)) (sym k.0) next) in
+          subst (IsRead z (length a + n)) (sym (repeat_goes test part some x w.0 w.1 (a ++ rest) h positive f))
+          (subst (λ i. IsRead z (i + n) (plus w.1 (repeat test part 0 w.0 (drop w.1 (a ++ rest))))) k.1 (plus_read w.1 z n (repeat test part 0 w.0 (drop w.1 (a ++ rest))) others))
 
-  module _ (P : Part) (F : Follow) (some : (a : Tokens) → P a → 1 ≤ length a) (begins : Leads P Anything (λ ts. test ts ≡ true)) (each : (x : A) → Completes P F (part x)) (again : Leads P F F) where
-    pub pieces_read : (m : ℕ) (rest : Tokens) → F rest → ((x : A) → IsRead (repeat test part 0 x rest) m)
-        → (pieces : List Tokens) (a : Tokens) → Pieces P pieces a → (x : A) → IsRead (repeat test part 0 x (a ++ rest)) (length a + m)
-    pieces_read m rest f last [] a e x =
-        let size : m ≡ length a + m = omega (arith, ap length e) in
-        subst (λ l. IsRead (repeat test part 0 x (l ++ rest)) (length a + m)) (sym e) (subst (IsRead (repeat test part 0 x rest)) size (last x))
-    pieces_read m rest f last (p ∷ ps) a (b, e, h, others) x =
-        let whole : a ++ rest ≡ p ++ (b ++ rest) = ap (λ l. l ++ rest) e ∙ append_assoc p b rest in
-        let size : length p + (length b + m) ≡ length a + m = omega (arith, ap length e, length-append p b) in
-        let follow : F (b ++ rest) = leads_many P F F again (λ ts g. g) b rest (ps, others) f in
-        subst (λ l. IsRead (repeat test part 0 x l) (length a + m)) (sym whole)
-        (subst (IsRead (repeat test part 0 x (p ++ (b ++ rest)))) size
-        (repeat_step x p (b ++ rest) (length b + m) (some p h) (begins p (b ++ rest) h tt) (each x p (b ++ rest) h follow) (λ y. pieces_read m rest f last ps b others y)))
+  pub repeat_none : (x : A) (rest : Tokens) → test rest ≡ false → IsRead x 0 (repeat test part 0 x rest)
+  repeat_none x rest h = subst (IsRead x 0) (sym (repeat_stops test part some x rest h)) (refl, refl)
 
-    pub many_read : (G : Follow) → ((ts : Tokens) → G ts → F ts) → ((ts : Tokens) → G ts → test ts ≡ false) → (x : A) → Completes (Many P) G (repeat test part 0 x)
-    many_read G follow stop x a rest (pieces, all) g =
-        subst (IsRead (repeat test part 0 x (a ++ rest))) (add-zero (length a)) (pieces_read 0 rest (follow rest g) (λ y. stops y rest (stop rest g)) pieces a all x)
+pub one_more_read : {A : Type 0} (part : List A → Tokens → Read A) (xs : List A) (x : A) (a rest : Tokens) → IsRead x (length a) (part xs (a ++ rest)) → IsRead (xs ++ x ∷ []) (length a) (one_more part xs (a ++ rest))
+unfolding one_more
+one_more_read part xs x a rest h = last_read (part xs) (λ x. xs ++ x ∷ []) a rest x h
+
+-- Any number of parts, each of which is read before what stands behind it, where the last is followed by `rest`.
+module _ {A : Type 0} (test : Tokens → Bool) (part : List A → Tokens → Read A) (some : (ts : Tokens) → test ts ≡ true → 1 ≤ length ts) (Part : A → Tokens → Type 0) (Good : Tokens → Type 0)
+    (Good_behind : (a b : Tokens) → Good (a ++ b) → Good b)
+    (there : (x : A) (a : Tokens) → Part x a → 1 ≤ length a) (begins : (x : A) (a rest : Tokens) → Part x a → Good (a ++ rest) → test (a ++ rest) ≡ true)
+    (F : Tokens → Type 0) (again : (x : A) (a rest : Tokens) → Part x a → Good (a ++ rest) → F (a ++ rest))
+    (each : (xs : List A) (x : A) (a rest : Tokens) → Part x a → Good (a ++ rest) → F rest → IsRead x (length a) (part xs (a ++ rest))) where
+  pub many_read : (xs ys : List A) (a rest : Tokens) → Each Part ys a → Good (a ++ rest) → F rest → test rest ≡ false → IsRead (xs ++ ys) (length a) (repeat test (one_more part) 0 xs (a ++ rest))
+  many_read xs [] a rest e good f stop =
+      subst (λ l. IsRead (xs ++ []) (length l) (repeat test (one_more part) 0 xs (l ++ rest))) (sym e)
+      (subst (λ l. IsRead l 0 (repeat test (one_more part) 0 xs rest)) (sym (append-nil xs)) (repeat_none test (one_more part) some xs rest stop))
+  many_read xs (y ∷ ys) a rest (b, c, e, p, q) good f stop =
+      let whole : a ++ rest ≡ b ++ (c ++ rest) = ap (λ l. l ++ rest) e ∙ append_assoc b c rest in
+      let ok : Good (b ++ (c ++ rest)) = subst Good whole good in
+      let behind : F (c ++ rest) = follow ys c rest q (Good_behind b (c ++ rest) ok) f in
+      let others : IsRead ((xs ++ y ∷ []) ++ ys) (length c) (repeat test (one_more part) 0 (xs ++ y ∷ []) (c ++ rest)) = many_read (xs ++ y ∷ []) ys c rest q (Good_behind b (c ++ rest) ok) f stop in
+      let size : length b + length c ≡ length a = sym (length-append b c) ∙ sym (ap length e) in
+      let values : (xs ++ y ∷ []) ++ ys ≡ xs ++ y ∷ ys = append_assoc xs (y ∷ []) ys in
+      subst (λ l. IsRead (xs ++ y ∷ ys) (length a) (repeat test (one_more part) 0 xs l)) (sym whole)
+      (subst (λ n. IsRead (xs ++ y ∷ ys) n (repeat test (one_more part) 0 xs (b ++ (c ++ rest)))) size
+      (subst (λ v. IsRead v (length b + length c) (repeat test (one_more part) 0 xs (b ++ (c ++ rest)))) values
+      (repeat_step test (one_more part) some xs (xs ++ y ∷ []) ((xs ++ y ∷ []) ++ ys) b (c ++ rest) (length c) (there y b p) (begins y b (c ++ rest) p ok) (one_more_read part xs y b (c ++ rest) (each xs y b (c ++ rest) p ok behind)) others)))
+    where
+      follow : (ys : List A) (c rest : Tokens) → Each Part ys c → Good (c ++ rest) → F rest → F (c ++ rest)
+      follow [] c rest q ok f = subst (λ l. F (l ++ rest)) (sym q) f
+      follow (z ∷ zs) c rest (d, g, e, p, q) ok f = subst F (sym (ap (λ l. l ++ rest) e ∙ append_assoc d g rest)) (again z d (g ++ rest) p (subst Good (ap (λ l. l ++ rest) e ∙ append_assoc d g rest) ok))
+
+-- ---- readings that are refused for names
+
+abbrev pub Refused : {A : Type 0} → Read A → Type 0
+Refused (Ok y) = ⊥
+Refused (Err e) = is_of_names e.0 ≡ true
+
+refused_plus : {A : Type 0} (n : ℕ) (r : Read A) → Refused r → Refused (plus n r)
+refused_plus n (Ok y) h = h
+refused_plus n (Err e) h = h
+
+pub refused_first : {A B : Type 0} (ts : Tokens) (r : Read A) (f : A → Tokens → Read B) → Refused r → Refused (followed ts r f)
+refused_first ts (Ok y) f h = absurd h
+refused_first ts (Err e) f h = h
+
+pub refused_then : {A B : Type 0} (part : Tokens → Read A) (f : A → Tokens → Read B) (a b c rest : Tokens) (x : A) → a ≡ b ++ c
+    → IsRead x (length b) (part (b ++ (c ++ rest))) → Refused (f x (c ++ rest)) → Refused (followed (a ++ rest) (part (a ++ rest)) f)
+refused_then part f a b c rest x e h g =
+    let whole : a ++ rest ≡ b ++ (c ++ rest) = ap (λ l. l ++ rest) e ∙ append_assoc b c rest in
+    subst (λ l. Refused (followed l (part l) f)) (sym whole) (by (part (b ++ (c ++ rest))) h)
+  where
+    by : (r : Read _) → IsRead x (length b) r → Refused (followed (b ++ (c ++ rest)) r f)
+    by (Err k) m = m
+    by (Ok z) m =
+        let there : c ++ rest ≡ drop z.1 (b ++ (c ++ rest)) = sym (drop-append_seam b (c ++ rest)) ∙ ap (λ i. drop i (b ++ (c ++ rest))) (sym m.1) in
+        refused_plus z.1 (f z.0 (drop z.1 (b ++ (c ++ rest)))) (subst (λ l. Refused (f z.0 l)) there (subst (λ x. Refused (f x (c ++ rest))) (sym m.0) g))
+
+pub refused_two : {A : Type 0} (r : Tokens → Read A) (a b rest : Tokens) (t u : Lexeme) → a ≡ t ∷ u ∷ b → Refused (r (b ++ rest)) → Refused (plus 2 (r (drop 2 (a ++ rest))))
+refused_two r a b rest t u e h = subst (λ l. Refused (plus 2 (r (drop 2 (l ++ rest))))) (sym e) (refused_plus 2 (r (b ++ rest)) h)
+
+pub refused_more : {A : Type 0} (part : List A → Tokens → Read A) (xs : List A) (ts : Tokens) → Refused (part xs ts) → Refused (one_more part xs ts)
+unfolding one_more
+refused_more part xs ts h = refused_first ts (part xs ts) (λ x r. Ok (xs ++ x ∷ [], 0)) h
+
+module _ {A : Type 0} (test : Tokens → Bool) (part : A → Tokens → Read A) (some : (ts : Tokens) → test ts ≡ true → 1 ≤ length ts) where
+  pub refused_repeat : (x : A) (ts : Tokens) → test ts ≡ true → Refused (part x ts) → Refused (repeat test part 0 x ts)
+  refused_repeat x ts h = by (part x ts) refl
+    where
+      by : (r : Read A) → part x ts ≡ r → Refused r → Refused (repeat test part 0 x ts)
+      by (Ok y) e k = absurd k
+      by (Err f) e k = subst Refused (sym (repeat_fails test part some x ts f h e)) k
+
+  pub refused_step : (x y : A) (a rest : Tokens) → 1 ≤ length a → test (a ++ rest) ≡ true → IsRead y (length a) (part x (a ++ rest)) → Refused (repeat test part 0 y rest) → Refused (repeat test part 0 x (a ++ rest))
+  refused_step x y a rest there h one next = by (part x (a ++ rest)) refl one
+    where
+      by : (r : Read A) → part x (a ++ rest) ≡ r → IsRead y (length a) r → Refused (repeat test part 0 x (a ++ rest))
+      by (Err e) f k = subst Refused (sym (repeat_fails test part some x (a ++ rest) e h f)) k
+      by (Ok w) f k =
+          let positive : 1 ≤ w.1 = omega (arith, k.1) in
+          let left : drop w.1 (a ++ rest) ≡ rest = ap (λ i. drop i (a ++ rest)) k.1 ∙ drop-append_seam a rest in
+          let others : Refused (repeat test part 0 w.0 (drop w.1 (a ++ rest))) = subst (λ l. Refused (repeat test part 0 w.0 l)) (sym left) (subst (λ y. Refused (repeat test part 0 y rest)) (sym k.0) next) in
+          subst Refused (sym (repeat_goes test part some x w.0 w.1 (a ++ rest) h positive f)) (refused_plus w.1 (repeat test part 0 w.0 (drop w.1 (a ++ rest))) others)

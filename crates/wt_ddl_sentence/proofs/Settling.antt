@@ -1,26 +1,30 @@
 -- Numbers for names, and targets for references: what is refused there is refused for names.
-use Rattle.std.proofs.Common.{◌≡◌, ℕ, true, Bool, false, List, [], ◌∷◌, length, refl, arith, Option, Some, None, Result, Ok, Err}
+use Rattle.std.proofs.Common.{◌≡◌, ℕ, true, Bool, false, List, [], ◌∷◌, length, refl, Option, Some, None, Ok, Err}
 use Rattle.std.specs.Prelude.{if◌then◌else◌, ◌==◌, slice_get}
-use Rattle.std.specs.List.{list_any}
-use Rattle.wt_ddl.specs.declared.fault.DdlError.{DdlError}
+use Rattle.std.specs.List.{find, list_any}
 use Rattle.wt_ddl.specs.Settling as spec
-use Rattle.wt_ddl.specs.Settling.{chain, in_turn, column_number}
+use Rattle.wt_ddl.specs.Settling.{in_turn}
+use Rattle.wt_ddl.specs.Refusals.{Checked, chain}
+use Rattle.wt_schema.specs.Lookup.{column_number}
+use Rattle.wt_ddl.specs.declared.syntax.ColumnRule.TheVariants as own
+use Rattle.wt_ddl.specs.declared.syntax.TableRule.TheVariants as rules
+use Rattle.wt_ddl.specs.declared.syntax.Element.TheVariants as elements
 use Rattle.wt_ddl.specs.Linking as linking
 use Rattle.wt_ddl_sentence.specs.Faults.{is_of_names}
 
-abbrev pub OfNames : {A : Type 0} → Result A DdlError → Type 0
+abbrev pub OfNames : {A : Type 0} → Checked A → Type 0
 OfNames (Ok x) = Unit {0}
-OfNames (Err e) = is_of_names e ≡ true
+OfNames (Err e) = is_of_names e.0 ≡ true
 
-either_names : {A : Type 0} (b : Bool) (r s : Result A DdlError) → OfNames r → OfNames s → OfNames (if b then r else s)
+either_names : {A : Type 0} (b : Bool) (r s : Checked A) → OfNames r → OfNames s → OfNames (if b then r else s)
 either_names true r s h k = h
 either_names false r s h k = k
 
-chain_names : {A B : Type 0} (r : Result A DdlError) (f : A → Result B DdlError) → OfNames r → ((a : A) → OfNames (f a)) → OfNames (chain r f)
+chain_names : {A B : Type 0} (r : Checked A) (f : A → Checked B) → OfNames r → ((a : A) → OfNames (f a)) → OfNames (chain r f)
 chain_names (Ok a) f h k = k a
 chain_names (Err e) f h k = h
 
-in_turn_names : {A X : Type 0} (step : A → X → Result A DdlError) → ((a : A) (x : X) → OfNames (step a x)) → (a : A) (xs : List X) → OfNames (in_turn step a xs)
+in_turn_names : {A X : Type 0} (step : A → X → Checked A) → ((a : A) (x : X) → OfNames (step a x)) → (a : A) (xs : List X) → OfNames (in_turn step a xs)
 in_turn_names step each a [] = tt
 in_turn_names step each a (x ∷ xs) = chain_names (step a x) (λ b. in_turn step b xs) (each a x) (λ b. in_turn_names step each b xs)
 
@@ -33,15 +37,31 @@ new_number_names seen (Some n) at = either_names (spec.is_among n seen) _ _ refl
 listed_names : (columns : _) (ns : _) → OfNames (in_turn (spec.list_one columns) [] ns)
 listed_names columns ns = in_turn_names (spec.list_one columns) (λ seen n. new_number_names seen (column_number columns n.name) n.at) [] ns
 
-numbers_names : (columns : _) (list : _) → OfNames (spec.numbers columns list)
-numbers_names columns list = grind (arith, listed_names columns)
+key_names : (t : _) (primary : Bool) (ns : _) → OfNames (spec.add_key t primary ns)
+key_names t primary ns = chain_names (spec.numbers t.columns ns) (spec.with_key t primary) (listed_names t.columns ns) (λ cs. tt)
+
+reference_names : (t : _) (ns : _) (target : _) → OfNames (spec.add_reference t ns target)
+reference_names t ns target = chain_names (spec.numbers t.columns ns) (spec.with_reference t target) (listed_names t.columns ns) (λ cs. tt)
+
+own_names : (n : _) (t : _) (r : _) → OfNames (spec.add_own n t r)
+own_names n t own.NotNull = tt
+own_names n t own.Null = tt
+own_names n t own.PrimaryKey = key_names t true (n ∷ [])
+own_names n t own.Unique = key_names t false (n ∷ [])
+own_names n t (own.References target) = reference_names t (n ∷ []) target
 
 rule_names : (t : _) (r : _) → OfNames (spec.add_rule t r)
-rule_names t r = grind (arith, numbers_names t.columns)
+rule_names t (rules.PrimaryKey ns) = key_names t true ns
+rule_names t (rules.Unique ns) = key_names t false ns
+rule_names t (rules.ForeignKey ns target) = reference_names t ns target
 
-pub settled_names : (d : _) → OfNames (spec.settled d)
+element_names : (t : _) (e : _) → OfNames (spec.add_element t e)
+element_names t (elements.Column c) = in_turn_names (spec.add_own c.name) (own_names c.name) t c.rules
+element_names t (elements.Rule r) = rule_names t r
+
+pub settled_names : (name : List ℕ) (es : _) → OfNames (spec.settled name es)
 unfolding spec.settled
-settled_names d = in_turn_names spec.add_rule rule_names _ d.rules
+settled_names name es = in_turn_names spec.add_element element_names _ es
 
 -- ---- targets of references
 
@@ -49,9 +69,9 @@ found_names : (seen : List ℕ) (o : Option ℕ) (at : ℕ) → OfNames (linking
 found_names seen None at = refl
 found_names seen (Some n) at = tt
 
-primary_names : (o : Option (List ℕ)) (width at : ℕ) → OfNames (linking.primary_target o width at)
-primary_names None width at = refl
-primary_names (Some columns) width at = either_names (length columns == width) _ _ tt refl
+width_names : (o : Option _) (width at : ℕ) → OfNames (linking.of_width o width at)
+width_names None width at = refl
+width_names (Some k) width at = either_names (length k.columns == width) _ _ tt refl
 
 named_names : (t : _) (ns : _) (width at : ℕ) → OfNames (linking.named_target t ns width at)
 named_names t ns width at =
@@ -60,7 +80,7 @@ named_names t ns width at =
     (λ columns. either_names (list_any (linking.has_exactly columns) t.keys) _ _ tt refl)) refl
 
 target_names : (t : _) (o : Option _) (width at : ℕ) → OfNames (linking.target_columns t o width at)
-target_names t None width at = primary_names t.primary width at
+target_names t None width at = width_names (find (λ k. k.primary) t.keys) width at
 target_names t (Some ns) width at = named_names t ns width at
 
 linked_to_names : (columns : _) (r : _) (n : ℕ) (t : _) → OfNames (linking.linked_to columns r n t)

@@ -1,121 +1,135 @@
 -- What the grammar derives is read: names, types and targets of references.
-use Rattle.std.proofs.Common.{◌≡◌, ◌≢◌, ℕ, ◌≤◌, Bool, true, false, inl, inr, List, [], ◌∷◌, ◌++◌, length, refl, sym, subst, arith}
+use Rattle.std.proofs.Common.{◌≡◌, ◌≢◌, ℕ, ◌+◌, ◌≤◌, Bool, true, false, inl, inr, List, [], ◌∷◌, ◌++◌, length, refl, ap, sym, ◌∙◌, subst, arith, length-append, append_assoc, Option, Some, None, Ok}
 use Rattle.std.specs.Prelude.{if◌then◌else◌, ◌==◌, ◌||◌, codes}
 use Rattle.std.proofs.lemmas.Bool.Decides.{nat_tests}
-use Rattle.wt_lex.specs.declared.token.TokenKind.{TokenKind}
-use Rattle.wt_lex.specs.declared.token.TokenKind.TheVariants as kinds
-use Rattle.wt_ddl.specs.Fronts.{Tokens, at_kind, at_word, is_open, is_close, is_comma}
+use Rattle.wt_reading.specs.declared.lexeme.Kind.{Kind}
+use Rattle.wt_reading.specs.declared.lexeme.Kind.TheVariants.{Number}
+use Rattle.wt_reading.specs.Lexemes.{Tokens, at, is_open, is_close}
+use Rattle.wt_reading.specs.Readings.{plus, followed, expect, within, list}
+use Rattle.wt_reading.specs.Sentences.{Seq, Either, One, Is, Each, Listed, Parens}
+use Rattle.wt_reading.proofs.Complete.{list_reads}
+use Rattle.wt_schema.specs.declared.schema.ColKind.{ColKind}
+use Rattle.wt_schema.specs.declared.schema.ColKind.TheVariants as col
+use Rattle.wt_reading.specs.declared.lexeme.Lexeme.{Lexeme}
+use Rattle.wt_ddl.specs.declared.syntax.Named.{Named}
+use Rattle.wt_ddl.specs.declared.syntax.Target.{Target}
+use Rattle.wt_ddl.specs.Fronts.{at_word}
 use Rattle.wt_ddl.specs.Grammar as grammar
-use Rattle.wt_ddl.specs.Grammar.{Part, Then, Either, Maybe, Many, Sign}
 use Rattle.wt_ddl.specs.Reading as spec
-use Rattle.wt_ddl.specs.Reading.{Read, plus, followed}
-use Rattle.wt_ddl_sentence.proofs.Readings.{IsRead, Follow, Anything, Completes, Leads, IsOne, then_some, nothing, taken, skipped, then_read, end_read, first_read, first_then_read, first_end_read, leads_then, leads_many, many_read}
-use Rattle.wt_ddl_sentence.proofs.Words.{Differ, At, then_sign, sign_one, sign_front, one_size, other_word, kind_at_word, word_one, word_front, no_comma_at_close}
+use Rattle.wt_ddl.specs.Reading.{Read}
+use Rattle.wt_ddl.proofs.Repeats.{option_some}
+use Rattle.wt_ddl_sentence.proofs.Readings.{IsRead, taken, skipped, then_read, last_read, first_read, repeat_step, repeat_none}
+use Rattle.wt_ddl_sentence.proofs.Words.{Differ, Real, real_behind, other_word, no_symbol_at, open_symbol, word_at, sign_at, no_comma_at_close}
 
--- a parenthesis closes behind the part
-abbrev pub AtClose : Follow
-AtClose = At is_close
+-- a parenthesis closes behind the part, or none opens
+abbrev pub AtClose : Tokens → Type 0
+AtClose ts = at is_close ts ≡ true
 
-abbrev pub NotOpen : Follow
-NotOpen ts = at_kind is_open ts ≡ false
+abbrev pub NotOpen : Tokens → Type 0
+NotOpen ts = at is_open ts ≡ false
 
-pub sign_read : (bytes : List ℕ) (test : TokenKind → Bool) → Completes (Sign test) Anything (spec.symbol bytes test)
-sign_read bytes test a rest p f = taken (at_kind test (a ++ rest)) _ _ (length a) (sign_front test Anything a rest p f) (one_size (Sign test) (sign_one test) a p)
+abbrev no_value : Unit {0}
+no_value = tt
 
-number_by_read : (bytes : List ℕ) (k : TokenKind) (n at : ℕ) → k ≡ kinds.Number n → n ≢ 9223372036854775808 → IsRead (spec.number_by bytes k at) 1
-number_by_read bytes k n at e h =
-    let other : (n == 9223372036854775808) ≡ false = grind (arith, nat_tests) in
-    subst (λ k. IsRead (spec.number_by bytes k at) 1) (sym e) (rw other refl)
+pub exact_read : {A : Type 0} (r : Read A) (x : A) (n : ℕ) → r ≡ Ok (x, n) → IsRead x n r
+exact_read r x n e = subst (IsRead x n) (sym e) (refl, refl)
+
+pub one_size : {P : Lexeme → Type 0} (a : Tokens) → One P a → 1 ≡ length a
+one_size a (t, e, h) = omega (arith, ap length e)
+
+-- a token in front of a part
+pub front_of : {P : Lexeme → Type 0} (Q : Tokens → Type 0) (a : Tokens) → Seq (One P) Q a → (t : Lexeme) × (b : Tokens) × (a ≡ t ∷ b) × P t × Q b
+front_of Q a (c, b, e, (t, f, h), q) = (t, b, e ∙ ap (λ l. l ++ b) f, h, q)
 
 module _ (bytes : List ℕ) where
-  abbrev pub Of : List ℕ → Part
-  Of w = grammar.Word bytes w
-
-  -- the tokens begin with this word
-  abbrev pub AtWord : List ℕ → Follow
+  abbrev pub AtWord : List ℕ → Tokens → Type 0
   AtWord w ts = at_word bytes w ts ≡ true
 
-  pub then_front : (w : List ℕ) (Q : Part) (a rest : Tokens) → Then (Of w) Q a → AtWord w (a ++ rest)
-  then_front w Q a rest p = leads_then (Of w) Q Anything Anything (AtWord w) (word_front bytes w Anything) (nothing Q Anything) a rest p tt
+  pub seq_at : (w : List ℕ) (Q : Tokens → Type 0) (a rest : Tokens) → Seq (grammar.Word bytes w) Q a → AtWord w (a ++ rest)
+  seq_at w Q a rest (b, c, e, p, q) = subst (λ l. AtWord w l) (sym (ap (λ l. l ++ rest) e ∙ append_assoc b c rest)) (word_at bytes w b (c ++ rest) p)
 
-  pub front : (w : List ℕ) (a rest : Tokens) → Of w a → AtWord w (a ++ rest)
-  front w a rest p = word_front bytes w Anything a rest p tt
+  pub word_read : (w : List ℕ) (a rest : Tokens) → grammar.Word bytes w a → IsRead tt (length a) (spec.word bytes w (a ++ rest))
+  unfolding expect
+  word_read w a rest p = taken (at_word bytes w (a ++ rest)) (Ok (tt, 1)) _ tt (length a) (word_at bytes w a rest p) (refl, one_size a p)
 
-  pub size : (w : List ℕ) (a : Tokens) → Of w a → 1 ≡ length a
-  size w a p = one_size (Of w) (word_one bytes w) a p
+  pub symbol_read : (test : Kind → Bool) (a rest : Tokens) → Is test a → IsRead tt (length a) (spec.symbol bytes test (a ++ rest))
+  unfolding expect
+  symbol_read test a rest p = taken (at test (a ++ rest)) (Ok (tt, 1)) _ tt (length a) (sign_at test a rest p) (refl, one_size a p)
 
-  pub word_read : (w : List ℕ) → Completes (Of w) Anything (spec.word bytes w)
-  word_read w a rest p f = taken (at_word bytes w (a ++ rest)) _ _ (length a) (front w a rest p) (size w a p)
-
-  pub name_read : Completes (grammar.Name bytes) Anything (spec.name bytes)
+  name_is : (n : Named) (a rest : Tokens) → grammar.Name bytes n a → spec.name bytes (a ++ rest) ≡ Ok (n, length a)
   unfolding spec.name
-  name_read a rest (t, e, h) f = subst (λ l. IsRead (spec.name bytes (l ++ rest)) (length l)) (sym e) (rw h refl)
+  name_is n a rest (t, e, (h, is)) = subst (λ l. spec.name bytes (l ++ rest) ≡ Ok (n, length l)) (sym e) (rw h (ap (λ m. Ok (m, 1)) (sym is)))
 
-  -- ---- lists of names
+  pub name_read : (n : Named) (a rest : Tokens) → grammar.Name bytes n a → IsRead n (length a) (spec.name bytes (a ++ rest))
+  name_read n a rest p = exact_read (spec.name bytes (a ++ rest)) n (length a) (name_is n a rest p)
 
-  abbrev pub Next_name : Part
-  Next_name = Then (Sign is_comma) (grammar.Name bytes)
+  -- a part in parentheses
+  pub within_read : {A : Type 0} (Part : A → Tokens → Type 0) (part : Tokens → Read A) (x : A) (a rest : Tokens) → Parens Part x a
+      → ((b r : Tokens) → Part x b → AtClose r → IsRead x (length b) (part (b ++ r))) → IsRead x (length a) (within part (λ _. spec.syntax bytes) (a ++ rest))
+  within_read Part part x a rest p each =
+      let (t, b, e, h, q) = front_of (Seq (Part x) (Is is_close)) a p in
+      first_read (λ l. followed l (part l) (λ x rest. followed rest (expect (at is_close) (spec.syntax bytes) rest) (λ _ r. Ok (x, 0)))) a b rest t x e (inside b q)
+    where
+      inside : (b : Tokens) → Seq (Part x) (Is is_close) b → IsRead x (length b) (followed (b ++ rest) (part (b ++ rest)) (λ x rest. followed rest (expect (at is_close) (spec.syntax bytes) rest) (λ _ r. Ok (x, 0))))
+      inside b (c, d, e, q, s) =
+          then_read part (λ x rest. followed rest (expect (at is_close) (spec.syntax bytes) rest) (λ _ r. Ok (x, 0))) b c d rest x x e (each c (d ++ rest) q (sign_at is_close d rest s))
+          (last_read (expect (at is_close) (spec.syntax bytes)) (λ _. x) d rest tt (symbol_read is_close d rest s))
 
-  next_name_read : (all : _) → Completes Next_name Anything (spec.next_name bytes all)
-  unfolding spec.next_name
-  next_name_read all a rest p f =
-      first_end_read (Sign is_comma) (grammar.Name bytes) Anything (spec.name bytes) _ (sign_one is_comma) name_read (λ n l g. refl) a rest p f
+  pub open_at : {A : Type 0} (Part : A → Tokens → Type 0) (x : A) (a rest : Tokens) → Parens Part x a → at is_open (a ++ rest) ≡ true
+  open_at Part x a rest p = let (t, b, e, h, q) = front_of (Seq (Part x) (Is is_close)) a p in subst (λ l. at is_open (l ++ rest) ≡ true) (sym e) h
 
-  more_names_read : (all : _) → Completes (Many Next_name) AtClose (spec.more_names bytes all)
-  more_names_read =
-      many_read (at_kind is_comma) (spec.next_name bytes) Next_name Anything (then_some (Sign is_comma) (grammar.Name bytes) (sign_one is_comma))
-      (then_sign is_comma (grammar.Name bytes) Anything) next_name_read (nothing Next_name Anything) AtClose (λ ts h. tt) no_comma_at_close
-
-  pub names_read : Completes (grammar.Names bytes) Anything (spec.names bytes)
+  pub names_read : (ns : List Named) (a rest : Tokens) → grammar.Names bytes ns a → IsRead ns (length a) (spec.names bytes (a ++ rest))
   unfolding spec.names
-  names_read a rest p f =
-      let Close = Sign is_close in
-      let More = Then (Many Next_name) Close in
-      let All = Then (grammar.Name bytes) More in
-      then_read (Sign is_open) All Anything Anything (spec.symbol bytes is_open) _ (sign_read bytes is_open) (λ u b r q g.
-      then_read (grammar.Name bytes) More Anything Anything (spec.name bytes) _ name_read (λ n c s k h.
-      then_read (Many Next_name) Close AtClose Anything (spec.more_names bytes (n ∷ [])) _ (more_names_read (n ∷ [])) (λ all d t m i.
-      end_read Close Anything (spec.symbol bytes is_close) _ (sign_read bytes is_close) (λ v l j. refl) d t m i)
-      (sign_front is_close Anything) c s k h) (nothing More Anything) b r q g) (nothing All Anything) a rest p f
+  names_read ns a rest p =
+      taken (at is_open (a ++ rest)) _ _ ns (length a) (open_at (Listed (grammar.Name bytes)) ns a rest p)
+      (within_read (Listed (grammar.Name bytes)) (list (spec.name bytes)) ns a rest p (λ b r q h.
+      exact_read (list (spec.name bytes) (b ++ r)) ns (length b)
+      (list_reads (grammar.Name bytes) (λ _. Unit {0}) (spec.name bytes) (λ c s n q f. name_is n c s q) (λ ts h. tt) b r ns q tt (no_comma_at_close r h))))
 
   -- ---- types
 
-  number_read : Completes grammar.Number Anything (spec.number bytes)
+  abbrev ANumber : Tokens → Type 0
+  ANumber = One (λ t. (n : ℕ) × (t.kind ≡ Number n) × (n ≢ 9223372036854775808))
+
+  number_is : (k : Kind) (ts : Tokens) (n : ℕ) → k ≡ Number n → n ≢ 9223372036854775808 → IsRead tt 1 (spec.number_by bytes k ts)
+  number_is k ts n e h =
+      let other : (n == 9223372036854775808) ≡ false = grind (arith, nat_tests) in
+      subst (λ k. IsRead tt 1 (spec.number_by bytes k ts)) (sym e) (skipped (n == 9223372036854775808) _ (Ok (tt, 1)) tt 1 other (refl, refl))
+
+  number_read : (a rest : Tokens) → ANumber a → IsRead tt (length a) (spec.number bytes (a ++ rest))
   unfolding spec.number
-  number_read a rest (t, n, e, k, h) f = subst (λ l. IsRead (spec.number bytes (l ++ rest)) (length l)) (sym e) (number_by_read bytes t.kind n t.start k h)
+  number_read a rest (t, e, (n, k, h)) = subst (λ l. IsRead tt (length l) (spec.number bytes (l ++ rest))) (sym e) (number_is t.kind (t ∷ rest) n k h)
 
-  width_read : Completes (grammar.Width bytes) NotOpen (spec.width bytes)
+  width_read : (a rest : Tokens) → grammar.Width bytes a → NotOpen rest → IsRead col.Text (length a) (spec.width bytes (a ++ rest))
   unfolding spec.width
-  width_read a rest (inl e) f = subst (λ l. IsRead (spec.width bytes (l ++ rest)) (length l)) (sym e) (skipped (at_kind is_open rest) _ _ 0 f refl)
+  width_read a rest (inl e) f = subst (λ l. IsRead col.Text (length l) (spec.width bytes (l ++ rest))) (sym e) (skipped (at is_open rest) _ (Ok (col.Text, 0)) col.Text 0 f (refl, refl))
   width_read a rest (inr p) f =
-      let Close = Sign is_close in
-      taken (at_kind is_open (a ++ rest)) _ _ (length a) (then_sign is_open (Then grammar.Number Close) Anything a rest p tt)
-      (first_then_read (Sign is_open) grammar.Number Close Anything Anything (spec.number bytes) _ (sign_one is_open) number_read
-      (λ u. end_read Close Anything (spec.symbol bytes is_close) _ (sign_read bytes is_close) (λ v l g. refl)) (nothing Close Anything) a rest p tt)
+      taken (at is_open (a ++ rest)) _ _ col.Text (length a) (open_at (λ _. ANumber) no_value a rest p)
+      (last_read (within (spec.number bytes) (λ _. spec.syntax bytes)) (λ _. col.Text) a rest no_value (within_read (λ _. ANumber) (spec.number bytes) no_value a rest p (λ b r q h. number_read b r q)))
 
-  whole_front : (a rest : Tokens) → grammar.Whole bytes a → spec.at_whole bytes (a ++ rest) ≡ true
-  whole_front a rest (inl p) = let h = front (codes "integer") a rest p in rw h refl
-  whole_front a rest (inr (inl p)) =
-      let h = front (codes "int") a rest p in
+  whole_at : (a rest : Tokens) → grammar.Whole bytes a → spec.at_whole bytes (a ++ rest) ≡ true
+  whole_at a rest (inl p) = let h = word_at bytes (codes "integer") a rest p in rw h refl
+  whole_at a rest (inr (inl p)) =
+      let h = word_at bytes (codes "int") a rest p in
       let g = other_word bytes (codes "int") (codes "integer") (a ++ rest) refl h in
       rw (g, h) refl
-  whole_front a rest (inr (inr (inl p))) =
-      let h = front (codes "bigint") a rest p in
+  whole_at a rest (inr (inr (inl p))) =
+      let h = word_at bytes (codes "bigint") a rest p in
       let g = other_word bytes (codes "bigint") (codes "integer") (a ++ rest) refl h in
       let f = other_word bytes (codes "bigint") (codes "int") (a ++ rest) refl h in
       rw (g, f, h) refl
-  whole_front a rest (inr (inr (inr p))) =
-      let h = front (codes "smallint") a rest p in
+  whole_at a rest (inr (inr (inr p))) =
+      let h = word_at bytes (codes "smallint") a rest p in
       let g = other_word bytes (codes "smallint") (codes "integer") (a ++ rest) refl h in
       let f = other_word bytes (codes "smallint") (codes "int") (a ++ rest) refl h in
       let e = other_word bytes (codes "smallint") (codes "bigint") (a ++ rest) refl h in
       rw (g, f, e, h) refl
 
   whole_size : (a : Tokens) → grammar.Whole bytes a → 1 ≡ length a
-  whole_size a (inl p) = size (codes "integer") a p
-  whole_size a (inr (inl p)) = size (codes "int") a p
-  whole_size a (inr (inr (inl p))) = size (codes "bigint") a p
-  whole_size a (inr (inr (inr p))) = size (codes "smallint") a p
+  whole_size a (inl p) = one_size a p
+  whole_size a (inr (inl p)) = one_size a p
+  whole_size a (inr (inr (inl p))) = one_size a p
+  whole_size a (inr (inr (inr p))) = one_size a p
 
   no_whole : (w : List ℕ) (ts : Tokens) → Differ w (codes "integer") → Differ w (codes "int") → Differ w (codes "bigint") → Differ w (codes "smallint") → AtWord w ts → spec.at_whole bytes ts ≡ false
   no_whole w ts d e f g h =
@@ -125,152 +139,175 @@ module _ (bytes : List ℕ) where
       let j = other_word bytes w (codes "smallint") ts g h in
       rw (a, b, i, j) refl
 
-  pub kind_read : Completes (grammar.Kind bytes) NotOpen (spec.kind bytes)
-  unfolding spec.kind
-  kind_read a rest (inl p) f = taken (spec.at_whole bytes (a ++ rest)) _ _ (length a) (whole_front a rest p) (whole_size a p)
-  kind_read a rest (inr (inl p)) f =
+  characters_read : (a rest : Tokens) → grammar.Characters bytes a → NotOpen rest → IsRead col.Text (length a) (spec.kind_of bytes (a ++ rest))
+  unfolding spec.kind_of
+  characters_read a rest (inl p) f =
       let ts = a ++ rest in
-      let h = front (codes "text") a rest p in
-      skipped (spec.at_whole bytes ts) _ _ (length a) (no_whole (codes "text") ts refl refl refl refl h)
-      (taken (at_word bytes (codes "text") ts) _ _ (length a) h (size (codes "text") a p))
-  kind_read a rest (inr (inr (inl p))) f =
+      let h = word_at bytes (codes "text") a rest p in
+      skipped (spec.at_whole bytes ts) _ _ col.Text (length a) (no_whole (codes "text") ts refl refl refl refl h)
+      (taken (at_word bytes (codes "text") ts) (Ok (col.Text, 1)) _ col.Text (length a) h (refl, one_size a p))
+  characters_read a rest (inr (inl p)) f =
       let ts = a ++ rest in
       let w = codes "varchar" in
-      let h = then_front w (grammar.Width bytes) a rest p in
-      skipped (spec.at_whole bytes ts) _ _ (length a) (no_whole w ts refl refl refl refl h)
-      (skipped (at_word bytes (codes "text") ts) _ _ (length a) (other_word bytes w (codes "text") ts refl h)
-      (taken (at_word bytes w ts) _ _ (length a) h
-      (first_read (Of w) (grammar.Width bytes) NotOpen (spec.width bytes) (word_one bytes w) width_read a rest p f)))
-  kind_read a rest (inr (inr (inr p))) f =
+      let h = seq_at w (grammar.Width bytes) a rest p in
+      let (t, b, e, is, q) = front_of (grammar.Width bytes) a p in
+      skipped (spec.at_whole bytes ts) _ _ col.Text (length a) (no_whole w ts refl refl refl refl h)
+      (skipped (at_word bytes (codes "text") ts) _ _ col.Text (length a) (other_word bytes w (codes "text") ts refl h)
+      (taken (at_word bytes w ts) _ _ col.Text (length a) h
+      (first_read (spec.width bytes) a b rest t col.Text e (width_read b rest q f))))
+  characters_read a rest (inr (inr p)) f =
       let ts = a ++ rest in
       let w = codes "character" in
-      let Varying = Then (Of (codes "varying")) (grammar.Width bytes) in
-      let h = then_front w Varying a rest p in
-      skipped (spec.at_whole bytes ts) _ _ (length a) (no_whole w ts refl refl refl refl h)
-      (skipped (at_word bytes (codes "text") ts) _ _ (length a) (other_word bytes w (codes "text") ts refl h)
-      (skipped (at_word bytes (codes "varchar") ts) _ _ (length a) (other_word bytes w (codes "varchar") ts refl h)
-      (taken (at_word bytes w ts) _ _ (length a) h
-      (first_then_read (Of w) (Of (codes "varying")) (grammar.Width bytes) Anything NotOpen (spec.word bytes (codes "varying")) _ (word_one bytes w) (word_read (codes "varying"))
-      (λ u. width_read) (nothing (grammar.Width bytes) NotOpen) a rest p f))))
+      let Varying = Seq (grammar.Word bytes (codes "varying")) (grammar.Width bytes) in
+      let h = seq_at w Varying a rest p in
+      let (t, b, e, is, (c, d, e', q, s)) = front_of Varying a p in
+      skipped (spec.at_whole bytes ts) _ _ col.Text (length a) (no_whole w ts refl refl refl refl h)
+      (skipped (at_word bytes (codes "text") ts) _ _ col.Text (length a) (other_word bytes w (codes "text") ts refl h)
+      (skipped (at_word bytes (codes "varchar") ts) _ _ col.Text (length a) (other_word bytes w (codes "varchar") ts refl h)
+      (taken (at_word bytes w ts) _ _ col.Text (length a) h
+      (first_read (λ l. followed l (spec.word bytes (codes "varying") l) (λ _ a. spec.width bytes a)) a b rest t col.Text e
+      (then_read (spec.word bytes (codes "varying")) (λ _ a. spec.width bytes a) b c d rest tt col.Text e' (word_read (codes "varying") c (d ++ rest) q) (width_read d rest s f))))))
 
-  -- ---- targets
+  whole_read : (a rest : Tokens) → grammar.Whole bytes a → IsRead col.Int (length a) (spec.kind_of bytes (a ++ rest))
+  unfolding spec.kind_of
+  whole_read a rest p = taken (spec.at_whole bytes (a ++ rest)) (Ok (col.Int, 1)) _ col.Int (length a) (whole_at a rest p) (refl, whole_size a p)
 
-  null_read : Completes (Of (codes "null")) Anything (spec.null_action bytes)
+  pub kind_read : (k : ColKind) (a rest : Tokens) → grammar.KindOf bytes k a → NotOpen rest → IsRead k (length a) (spec.kind_of bytes (a ++ rest))
+  kind_read k a rest (inl (p, is)) f = subst (λ k. IsRead k (length a) (spec.kind_of bytes (a ++ rest))) (sym is) (whole_read a rest p)
+  kind_read k a rest (inr (p, is)) f = subst (λ k. IsRead k (length a) (spec.kind_of bytes (a ++ rest))) (sym is) (characters_read a rest p f)
+
+  -- ---- options
+
+  null_read : (a rest : Tokens) → grammar.Word bytes (codes "null") a → IsRead tt (length a) (spec.null_action bytes (a ++ rest))
   unfolding spec.null_action
-  null_read a rest p f = taken (at_word bytes (codes "null") (a ++ rest)) _ _ (length a) (front (codes "null") a rest p) (size (codes "null") a p)
+  null_read a rest p = taken (at_word bytes (codes "null") (a ++ rest)) (Ok (tt, 1)) _ tt (length a) (word_at bytes (codes "null") a rest p) (refl, one_size a p)
 
-  action_read : Completes (grammar.Action bytes) Anything (spec.action bytes)
+  action_read : (a rest : Tokens) → grammar.Action bytes a → IsRead tt (length a) (spec.action bytes (a ++ rest))
   unfolding spec.action
-  action_read a rest (inl p) f =
-      let h = front (codes "cascade") a rest p in
-      taken (at_word bytes (codes "cascade") (a ++ rest) || at_word bytes (codes "restrict") (a ++ rest)) _ _ (length a) (rw h refl) (size (codes "cascade") a p)
-  action_read a rest (inr (inl p)) f =
-      let h = front (codes "restrict") a rest p in
+  action_read a rest (inl p) =
+      let h = word_at bytes (codes "cascade") a rest p in
+      taken (at_word bytes (codes "cascade") (a ++ rest) || at_word bytes (codes "restrict") (a ++ rest)) (Ok (tt, 1)) _ tt (length a) (rw h refl) (refl, one_size a p)
+  action_read a rest (inr (inl p)) =
+      let h = word_at bytes (codes "restrict") a rest p in
       let g = other_word bytes (codes "restrict") (codes "cascade") (a ++ rest) refl h in
-      taken (at_word bytes (codes "cascade") (a ++ rest) || at_word bytes (codes "restrict") (a ++ rest)) _ _ (length a) (rw (g, h) refl) (size (codes "restrict") a p)
-  action_read a rest (inr (inr (inl p))) f =
-      let h = then_front (codes "set") (Of (codes "null")) a rest p in
+      taken (at_word bytes (codes "cascade") (a ++ rest) || at_word bytes (codes "restrict") (a ++ rest)) (Ok (tt, 1)) _ tt (length a) (rw (g, h) refl) (refl, one_size a p)
+  action_read a rest (inr (inr (inl p))) =
+      let h = seq_at (codes "set") (grammar.Word bytes (codes "null")) a rest p in
       let g = other_word bytes (codes "set") (codes "cascade") (a ++ rest) refl h in
-      let e = other_word bytes (codes "set") (codes "restrict") (a ++ rest) refl h in
-      skipped (at_word bytes (codes "cascade") (a ++ rest) || at_word bytes (codes "restrict") (a ++ rest)) _ _ (length a) (rw (g, e) refl)
-      (taken (at_word bytes (codes "set") (a ++ rest)) _ _ (length a) h
-      (first_read (Of (codes "set")) (Of (codes "null")) Anything (spec.null_action bytes) (word_one bytes (codes "set")) null_read a rest p f))
-  action_read a rest (inr (inr (inr p))) f =
-      let h = then_front (codes "no") (Of (codes "action")) a rest p in
+      let i = other_word bytes (codes "set") (codes "restrict") (a ++ rest) refl h in
+      let (t, b, e, is, q) = front_of (grammar.Word bytes (codes "null")) a p in
+      skipped (at_word bytes (codes "cascade") (a ++ rest) || at_word bytes (codes "restrict") (a ++ rest)) _ _ tt (length a) (rw (g, i) refl)
+      (taken (at_word bytes (codes "set") (a ++ rest)) _ _ tt (length a) h (first_read (spec.null_action bytes) a b rest t tt e (null_read b rest q)))
+  action_read a rest (inr (inr (inr p))) =
+      let h = seq_at (codes "no") (grammar.Word bytes (codes "action")) a rest p in
       let g = other_word bytes (codes "no") (codes "cascade") (a ++ rest) refl h in
-      let e = other_word bytes (codes "no") (codes "restrict") (a ++ rest) refl h in
-      skipped (at_word bytes (codes "cascade") (a ++ rest) || at_word bytes (codes "restrict") (a ++ rest)) _ _ (length a) (rw (g, e) refl)
-      (skipped (at_word bytes (codes "set") (a ++ rest)) _ _ (length a) (other_word bytes (codes "no") (codes "set") (a ++ rest) refl h)
-      (taken (at_word bytes (codes "no") (a ++ rest)) _ _ (length a) h
-      (first_read (Of (codes "no")) (Of (codes "action")) Anything (spec.word bytes (codes "action")) (word_one bytes (codes "no")) (word_read (codes "action")) a rest p f)))
+      let i = other_word bytes (codes "no") (codes "restrict") (a ++ rest) refl h in
+      let (t, b, e, is, q) = front_of (grammar.Word bytes (codes "action")) a p in
+      skipped (at_word bytes (codes "cascade") (a ++ rest) || at_word bytes (codes "restrict") (a ++ rest)) _ _ tt (length a) (rw (g, i) refl)
+      (skipped (at_word bytes (codes "set") (a ++ rest)) _ _ tt (length a) (other_word bytes (codes "no") (codes "set") (a ++ rest) refl h)
+      (taken (at_word bytes (codes "no") (a ++ rest)) _ _ tt (length a) h (first_read (spec.word bytes (codes "action")) a b rest t tt e (word_read (codes "action") b rest q))))
 
-  abbrev Change : Part
-  Change = Either (Of (codes "delete")) (Of (codes "update"))
+  abbrev Change : Tokens → Type 0
+  Change = Either (grammar.Word bytes (codes "delete")) (grammar.Word bytes (codes "update"))
 
-  change_one : IsOne Change
-  change_one a (inl p) = word_one bytes (codes "delete") a p
-  change_one a (inr p) = word_one bytes (codes "update") a p
-
-  abbrev AtChange : Follow
-  AtChange ts = (at_word bytes (codes "delete") ts || at_word bytes (codes "update") ts) ≡ true
-
-  change_front : Leads Change Anything AtChange
-  change_front a rest (inl p) f = let h = front (codes "delete") a rest p in rw h refl
-  change_front a rest (inr p) f =
-      let h = front (codes "update") a rest p in
+  change_at : (a rest : Tokens) → Change a → (at_word bytes (codes "delete") (a ++ rest) || at_word bytes (codes "update") (a ++ rest)) ≡ true
+  change_at a rest (inl p) = let h = word_at bytes (codes "delete") a rest p in rw h refl
+  change_at a rest (inr p) =
+      let h = word_at bytes (codes "update") a rest p in
       let g = other_word bytes (codes "update") (codes "delete") (a ++ rest) refl h in
       rw (g, h) refl
 
-  event_read : Completes (grammar.Event bytes) Anything (spec.event bytes)
-  unfolding spec.event
-  event_read a rest p f =
-      taken (at_word bytes (codes "delete") (a ++ rest) || at_word bytes (codes "update") (a ++ rest)) _ _ (length a)
-      (leads_then Change (grammar.Action bytes) Anything Anything AtChange change_front (nothing (grammar.Action bytes) Anything) a rest p f)
-      (first_read Change (grammar.Action bytes) Anything (spec.action bytes) change_one action_read a rest p f)
+  change_one : (a : Tokens) → Change a → (t : Lexeme) × (a ≡ t ∷ [])
+  change_one a (inl (t, e, h)) = (t, e)
+  change_one a (inr (t, e, h)) = (t, e)
 
-  simple_read : Completes (Of (codes "simple")) Anything (spec.simple bytes)
+  event_read : (a rest : Tokens) → Seq Change (grammar.Action bytes) a → IsRead tt (length a) (spec.event bytes (a ++ rest))
+  unfolding spec.event
+  event_read a rest (b, c, e, p, q) =
+      let (t, f) = change_one b p in
+      let whole : a ++ rest ≡ b ++ (c ++ rest) = ap (λ l. l ++ rest) e ∙ append_assoc b c rest in
+      taken (at_word bytes (codes "delete") (a ++ rest) || at_word bytes (codes "update") (a ++ rest)) _ _ tt (length a)
+      (ap (λ l. at_word bytes (codes "delete") l || at_word bytes (codes "update") l) whole ∙ change_at b (c ++ rest) p)
+      (first_read (spec.action bytes) a c rest t tt (e ∙ ap (λ l. l ++ c) f) (action_read c rest q))
+
+  simple_read : (a rest : Tokens) → grammar.Word bytes (codes "simple") a → IsRead tt (length a) (spec.simple bytes (a ++ rest))
   unfolding spec.simple
-  simple_read a rest p f = taken (at_word bytes (codes "simple") (a ++ rest)) _ _ (length a) (front (codes "simple") a rest p) (size (codes "simple") a p)
+  simple_read a rest p = taken (at_word bytes (codes "simple") (a ++ rest)) (Ok (tt, 1)) _ tt (length a) (word_at bytes (codes "simple") a rest p) (refl, one_size a p)
 
   -- the choice of an option stands inside a sum
-  plus_if : {A : Type 0} (b : Bool) (r s : Read A) (n : ℕ) → (b ≡ true → IsRead (plus 1 r) n) → (b ≡ false → IsRead (plus 1 s) n) → IsRead (plus 1 (if b then r else s)) n
-  plus_if true r s n h g = h refl
-  plus_if false r s n h g = g refl
+  plus_if : {A : Type 0} (b : Bool) (r s : Read A) (x : A) (n : ℕ) → (b ≡ true → IsRead x n (plus 1 r)) → (b ≡ false → IsRead x n (plus 1 s)) → IsRead x n (plus 1 (if b then r else s))
+  plus_if true r s x n h g = h refl
+  plus_if false r s x n h g = g refl
 
-  option_read : (u : Unit {0}) → Completes (grammar.Option bytes) Anything (spec.option bytes u)
+  option_read : (u : Unit {0}) (a rest : Tokens) → grammar.AnOption bytes u a → IsRead tt (length a) (spec.option bytes tt (a ++ rest))
   unfolding spec.option
-  option_read u a rest (inl p) f =
-      let h = then_front (codes "match") (Of (codes "simple")) a rest p in
-      plus_if (at_word bytes (codes "match") (a ++ rest)) _ _ (length a)
-      (λ _. first_read (Of (codes "match")) (Of (codes "simple")) Anything (spec.simple bytes) (word_one bytes (codes "match")) simple_read a rest p f)
-      (λ g. absurd (cc))
-  option_read u a rest (inr p) f =
-      let h = then_front (codes "on") (grammar.Event bytes) a rest p in
-      let e = other_word bytes (codes "on") (codes "match") (a ++ rest) refl h in
-      plus_if (at_word bytes (codes "match") (a ++ rest)) _ _ (length a)
-      (λ g. absurd (cc))
-      (λ _. first_read (Of (codes "on")) (grammar.Event bytes) Anything (spec.event bytes) (word_one bytes (codes "on")) event_read a rest p f)
+  option_read u a rest (inl p) =
+      let h = seq_at (codes "match") (grammar.Word bytes (codes "simple")) a rest p in
+      let (t, b, e, is, q) = front_of (grammar.Word bytes (codes "simple")) a p in
+      plus_if (at_word bytes (codes "match") (a ++ rest)) _ _ tt (length a) (λ _. first_read (spec.simple bytes) a b rest t tt e (simple_read b rest q)) (λ g. absurd (cc))
+  option_read u a rest (inr p) =
+      let Tail = Seq Change (grammar.Action bytes) in
+      let h = seq_at (codes "on") Tail a rest p in
+      let g = other_word bytes (codes "on") (codes "match") (a ++ rest) refl h in
+      let (t, b, e, is, q) = front_of Tail a p in
+      plus_if (at_word bytes (codes "match") (a ++ rest)) _ _ tt (length a) (λ k. absurd (cc)) (λ _. first_read (spec.event bytes) a b rest t tt e (event_read b rest q))
 
-  option_front : Leads (grammar.Option bytes) Anything (λ ts. spec.at_option bytes ts ≡ true)
-  option_front a rest (inl p) f = let h = then_front (codes "match") (Of (codes "simple")) a rest p in rw h refl
-  option_front a rest (inr p) f =
-      let h = then_front (codes "on") (grammar.Event bytes) a rest p in
+  pub option_at : (u : Unit {0}) (a rest : Tokens) → grammar.AnOption bytes u a → spec.at_option bytes (a ++ rest) ≡ true
+  option_at u a rest (inl p) = let h = seq_at (codes "match") (grammar.Word bytes (codes "simple")) a rest p in rw h refl
+  option_at u a rest (inr p) =
+      let h = seq_at (codes "on") (Seq Change (grammar.Action bytes)) a rest p in
       let g = other_word bytes (codes "on") (codes "match") (a ++ rest) refl h in
       rw (g, h) refl
 
-  option_some : (a : Tokens) → grammar.Option bytes a → 1 ≤ length a
-  option_some a (inl p) = then_some (Of (codes "match")) (Of (codes "simple")) (word_one bytes (codes "match")) a p
-  option_some a (inr p) = then_some (Of (codes "on")) (grammar.Event bytes) (word_one bytes (codes "on")) a p
+  option_not_open : (u : Unit {0}) (a rest : Tokens) → Real bytes (a ++ rest) → grammar.AnOption bytes u a → NotOpen (a ++ rest)
+  option_not_open u a rest real (inl p) = no_symbol_at bytes is_open open_symbol (codes "match") (a ++ rest) real (seq_at (codes "match") (grammar.Word bytes (codes "simple")) a rest p)
+  option_not_open u a rest real (inr p) = no_symbol_at bytes is_open open_symbol (codes "on") (a ++ rest) real (seq_at (codes "on") (Seq Change (grammar.Action bytes)) a rest p)
+
+  option_some_token : (u : Unit {0}) (a : Tokens) → grammar.AnOption bytes u a → 1 ≤ length a
+  option_some_token u a (inl p) = let (t, b, e, is, q) = front_of (grammar.Word bytes (codes "simple")) a p in omega (arith, ap length e)
+  option_some_token u a (inr p) = let (t, b, e, is, q) = front_of (Seq Change (grammar.Action bytes)) a p in omega (arith, ap length e)
+
+  options_read : (us : List (Unit {0})) (a rest : Tokens) → Each (grammar.AnOption bytes) us a → spec.at_option bytes rest ≡ false → IsRead tt (length a) (spec.options bytes (a ++ rest))
+  options_read [] a rest e stop =
+      subst (λ l. IsRead tt (length l) (spec.options bytes (l ++ rest))) (sym e) (repeat_none (spec.at_option bytes) (spec.option bytes) (option_some bytes) tt rest stop)
+  options_read (u ∷ us) a rest (b, c, e, p, q) stop =
+      let whole : a ++ rest ≡ b ++ (c ++ rest) = ap (λ l. l ++ rest) e ∙ append_assoc b c rest in
+      let size : length b + length c ≡ length a = sym (length-append b c) ∙ sym (ap length e) in
+      subst (λ l. IsRead tt (length a) (spec.options bytes l)) (sym whole)
+      (subst (λ n. IsRead tt n (spec.options bytes (b ++ (c ++ rest)))) size
+      (repeat_step (spec.at_option bytes) (spec.option bytes) (option_some bytes) tt tt tt b (c ++ rest) (length c) (option_some_token u b p) (option_at u b (c ++ rest) p) (option_read u b (c ++ rest) p)
+      (options_read us c rest q stop)))
+
+  -- ---- targets
 
   -- behind a target no parenthesis opens, and no option stands
   pub record AfterTarget (ts : Tokens) : Type 0 where
     pub not_open : NotOpen ts
     pub no_option : spec.at_option bytes ts ≡ false
 
-  options_read : Completes (Many (grammar.Option bytes)) AfterTarget (spec.options bytes)
-  options_read =
-      many_read (spec.at_option bytes) (spec.option bytes) (grammar.Option bytes) Anything option_some option_front option_read (nothing (grammar.Option bytes) Anything)
-      AfterTarget (λ ts h. tt) (λ ts h. h.no_option) tt
+  options_not_open : (us : List (Unit {0})) (a rest : Tokens) → Real bytes (a ++ rest) → Each (grammar.AnOption bytes) us a → NotOpen rest → NotOpen (a ++ rest)
+  options_not_open [] a rest real e f = subst (λ l. NotOpen (l ++ rest)) (sym e) f
+  options_not_open (u ∷ us) a rest real (b, c, e, p, q) f =
+      let whole : a ++ rest ≡ b ++ (c ++ rest) = ap (λ l. l ++ rest) e ∙ append_assoc b c rest in
+      subst NotOpen (sym whole) (option_not_open u b (c ++ rest) (subst (Real bytes) whole real) p)
 
-  target_names_read : Completes (Maybe (grammar.Names bytes)) NotOpen (spec.target_names bytes)
+  target_names_read : (o : Option (List Named)) (a rest : Tokens) → grammar.TargetNames bytes o a → NotOpen rest → IsRead o (length a) (spec.target_names bytes (a ++ rest))
   unfolding spec.target_names
-  target_names_read a rest (inl e) f = subst (λ l. IsRead (spec.target_names bytes (l ++ rest)) (length l)) (sym e) (skipped (at_kind is_open rest) _ _ 0 f refl)
-  target_names_read a rest (inr p) f =
-      let In = Then (grammar.Name bytes) (Then (Many Next_name) (Sign is_close)) in
-      taken (at_kind is_open (a ++ rest)) _ _ (length a) (then_sign is_open In Anything a rest p tt)
-      (end_read (grammar.Names bytes) Anything (spec.names bytes) _ names_read (λ all l g. refl) a rest p tt)
+  target_names_read o a rest (inl (e, is)) f =
+      subst (λ o. IsRead o (length a) (spec.target_names bytes (a ++ rest))) (sym is)
+      (subst (λ l. IsRead None (length l) (spec.target_names bytes (l ++ rest))) (sym e) (skipped (at is_open rest) _ (Ok (None, 0)) None 0 f (refl, refl)))
+  target_names_read o a rest (inr (ns, p, is)) f =
+      subst (λ o. IsRead o (length a) (spec.target_names bytes (a ++ rest))) (sym is)
+      (taken (at is_open (a ++ rest)) _ _ (Some ns) (length a) (open_at (Listed (grammar.Name bytes)) ns a rest p)
+      (last_read (spec.names bytes) (λ all. Some all) a rest ns (names_read ns a rest p)))
 
-  option_not_open : (a rest : Tokens) → grammar.Option bytes a → NotOpen (a ++ rest)
-  option_not_open a rest (inl p) = kind_at_word bytes is_open (codes "match") (a ++ rest) (then_front (codes "match") (Of (codes "simple")) a rest p)
-  option_not_open a rest (inr p) = kind_at_word bytes is_open (codes "on") (a ++ rest) (then_front (codes "on") (grammar.Event bytes) a rest p)
-
-  pub target_read : Completes (grammar.Target bytes) AfterTarget (spec.target bytes)
+  pub target_read : (x : Target) (a rest : Tokens) → Real bytes (a ++ rest) → grammar.IsTarget bytes x a → AfterTarget rest → IsRead x (length a) (spec.target bytes (a ++ rest))
   unfolding spec.target
-  target_read a rest p f =
-      let Options = Many (grammar.Option bytes) in
-      let More = Then (Maybe (grammar.Names bytes)) Options in
-      then_read (grammar.Name bytes) More Anything AfterTarget (spec.name bytes) _ name_read (λ n b r q g.
-      then_read (Maybe (grammar.Names bytes)) Options NotOpen AfterTarget (spec.target_names bytes) _ target_names_read (λ all c s k h.
-      end_read Options AfterTarget (spec.options bytes) _ options_read (λ u l i. refl) c s k h)
-      (leads_many (grammar.Option bytes) NotOpen AfterTarget (λ d t m i. option_not_open d t m) (λ ts h. h.not_open)) b r q g)
-      (nothing More AfterTarget) a rest p f
+  target_read x a rest real (n, o, (b, c, e, p, (d, g, e', q, (us, s))), is) f =
+      let whole : a ++ rest ≡ b ++ (c ++ rest) = ap (λ l. l ++ rest) e ∙ append_assoc b c rest in
+      let inner : c ++ rest ≡ d ++ (g ++ rest) = ap (λ l. l ++ rest) e' ∙ append_assoc d g rest in
+      let real_options : Real bytes (g ++ rest) = real_behind bytes d (g ++ rest) (subst (Real bytes) inner (real_behind bytes b (c ++ rest) (subst (Real bytes) whole real))) in
+      subst (λ x. IsRead x (length a) (spec.target bytes (a ++ rest))) (sym is)
+      (then_read (spec.name bytes) _ a b c rest n (record { table = n; columns = o }) e (name_read n b (c ++ rest) p)
+      (then_read (spec.target_names bytes) _ c d g rest o (record { table = n; columns = o }) e' (target_names_read o d (g ++ rest) q (options_not_open us g rest real_options s f.not_open))
+      (last_read (spec.options bytes) (λ _. record { table = n; columns = o }) g rest tt (options_read us g rest s f.no_option))))

@@ -1,5 +1,5 @@
--- Some pairs have one rule file.
-use Rattle.std.proofs.Common.{ℕ, ◌+◌, ◌-◌, ◌^◌, ◌≡◌, min, List, [], ◌∷◌, ◌++◌, length, sym, ap, ◌∙◌}
+-- Some pairs have one rule file, and the lines of the first of them begin it.
+use Rattle.std.proofs.Common.{ℕ, ◌+◌, ◌-◌, ◌^◌, ◌≡◌, min, zero, suc, List, [], ◌∷◌, ◌++◌, length, take, sym, ap, ◌∙◌, append_assoc}
 use Rattle.std.specs.List.{flat_map}
 use Rattle.wt_symbol.specs.Sides.{PairTree}
 use Rattle.wt_form.proofs.OneList.{rules_are_one}
@@ -22,3 +22,17 @@ pub one_file : (k d : ℕ) (ps : List PairTree) (t u : List ℕ) → IsRuleFile 
 one_file k d ps t u a b =
     let all = one_all k d ps a.lines b.lines a.count b.count a.are b.are in
     a.is ∙ ap (λ x. head_line k ++ (x ++ end_line (min a.count (2 ^ 64 - 1)))) all.0 ∙ ap (λ n. head_line k ++ (b.lines ++ end_line (min n (2 ^ 64 - 1)))) all.1 ∙ sym b.is
+
+first_lines : (k d n : ℕ) (ps : List PairTree) (t u : List ℕ) (m c : ℕ) → AreAllLines k d (take n ps) t m → AreAllLines k d ps u c → (rest : List ℕ) × (u ≡ t ++ rest)
+first_lines k d zero ps t u m c a b = (u, sym (ap (λ x. x ++ u) a.0))
+first_lines k d (suc n) [] t u m c a b = (u, sym (ap (λ x. x ++ u) a.0))
+first_lines k d (suc n) (p ∷ ps) t u m c a b =
+    let first = one_lines p k d a.0 b.0 a.1 b.1 a.4 b.4 in
+    let (rest, is) = first_lines k d n ps a.2 b.2 a.3 b.3 a.5 b.5 in
+    (rest, b.6 ∙ ap (λ x. x ++ b.2) (sym first.0) ∙ ap (λ x. a.0 ++ x) is ∙ sym (append_assoc a.0 a.2 rest) ∙ ap (λ x. x ++ rest) (sym a.6))
+
+pub first_pairs_begin : (k d n : ℕ) (ps : List PairTree) (t file : List ℕ) (m : ℕ) → AreAllLines k d (take n ps) t m → IsRuleFile k d ps file → (rest : List ℕ) × (file ≡ (head_line k ++ t) ++ rest)
+first_pairs_begin k d n ps t file m a b =
+    let end = end_line (min b.count (2 ^ 64 - 1)) in
+    let (rest, is) = first_lines k d n ps t b.lines m b.count a b.are in
+    (rest ++ end, b.is ∙ ap (λ x. head_line k ++ (x ++ end)) is ∙ ap (λ x. head_line k ++ x) (append_assoc t rest end) ∙ sym (append_assoc (head_line k) t (rest ++ end)))

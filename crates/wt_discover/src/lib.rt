@@ -1,13 +1,13 @@
 //! The lines of the rules of a pair, as a rule file has them.
 #![tactic(auto)]
 
-ghost use Rattle.std.specs.Prelude.{◌≡◌, ◌++◌, [], ℕ, List, All, map, IfOk, OnOk, length};
+ghost use Rattle.std.specs.Prelude.{◌≡◌, ◌++◌, [], ℕ, List, All, map, take, IfOk, OnOk, length};
 ghost use Rattle.std.specs.List.{flat_map};
 ghost use Rattle.wt_symbol.specs.Sides.{tree_of, pair_of, PairTree};
 ghost use Rattle.wt_symbol.specs.Lawful.{IsLawful};
 ghost use Rattle.wt_prover.specs.SideTowers.{IsTower};
-ghost use Rattle.wt_rule.specs.Texts.{line_of};
-ghost use Rattle.wt_discover.specs.Files.{AreLines, AreCounted, HasTowers, IsRuleFile};
+ghost use Rattle.wt_rule.specs.Texts.{head_line, line_of};
+ghost use Rattle.wt_discover.specs.Files.{AreLines, AreAllLines, AreCounted, HasTowers, IsRuleFile};
 
 use std::alloc::{AllocError, Global};
 use wt_constraint::AtomSet;
@@ -103,64 +103,9 @@ pub fn one_rule_file()
         IsRuleFile steps depth pairs a → IsRuleFile steps depth pairs b → a ≡ b }
 {}
 
-#[cfg(test)]
-mod tests {
-    use super::*;
-    use wt_prover::is_tower;
-    use wt_symbol::{Anchors, Side, pair_fault};
-
-    fn input(alloc: Global) -> Result<Box<Side>, AllocError> {
-        Ok(Box::new(alloc, Side::Input(0))?)
-    }
-
-    /// Whether the pair is a lawful one of towers with this text of its rules.
-    fn has_lines(
-        alloc: Global,
-        source: Side,
-        dest: Side,
-        lists: usize,
-        expected: &str,
-    ) -> Result<bool, AllocError> {
-        let mut anchors = Anchors::new(alloc);
-        for _ in 0..lists {
-            anchors.push(0)?;
-        }
-        let pair = Pair {
-            source,
-            dest,
-            anchors,
-        };
-        if pair_fault(alloc, &pair)?.is_some() || !is_tower(&pair.source) || !is_tower(&pair.dest) {
-            return Ok(false);
-        }
-        let pairs = [pair];
-        let lines = lines_of_pairs(alloc, &pairs, 64, 8)?;
-        let count = if expected.is_empty() { 0 } else { 1 };
-        Ok(lines.text.as_slice() == expected.as_bytes() && lines.count == count)
-    }
-
-    #[test]
-    fn the_rules_of_filters_and_dedups(rt: HostRuntime) -> Result<(), AllocError> {
-        let alloc = rt.alloc();
-        let filter = Box::new(alloc, Side::Filter(1, 1, input(alloc)?))?;
-        let source = Side::Filter(0, 0, filter);
-        let dest = Side::Filter(0, 1, input(alloc)?);
-        let line =
-            "Filter<p0,a0@r0>(Filter<p1,a1@r0>(r0)) => Filter<p0,a1>(r0) | AttrsEq(a0,a1) PredEq(p0,p1)\n";
-        assert!(rt; has_lines(alloc, source, dest, 2, line)?);
-        let source = Side::Dedup(Box::new(alloc, Side::Dedup(input(alloc)?))?);
-        let dest = Side::Dedup(input(alloc)?);
-        assert!(rt;
-            has_lines(
-                alloc,
-                source,
-                dest,
-                0,
-                "Dedup(Dedup(r0)) => Dedup(r0) | -\n"
-            )?
-        );
-        let source = Side::Dedup(input(alloc)?);
-        assert!(rt; has_lines(alloc, source, Side::Input(0), 0, "")?);
-        Ok(())
-    }
-}
+/// A law: the first line and the lines of the rules of the first pairs begin the rule file of all pairs.
+pub fn first_pairs_begin_the_rule_file()
+    ensures { (steps depth n : ℕ) (pairs : List PairTree) (lines file : List ℕ) (count : ℕ) →
+        AreAllLines steps depth (take n pairs) lines count → IsRuleFile steps depth pairs file →
+        (rest : List ℕ) × (file ≡ (head_line steps ++ lines) ++ rest) }
+{}

@@ -1,1 +1,12 @@
 pub mod OneList
+pub mod Moves
+pub mod SameGrows
+pub mod StepsGrow
+pub mod Asked
+pub mod SetsGrow
+pub mod Exprs
+pub mod StaySmall
+pub mod Sizes
+pub mod Rewrites
+pub mod Weighing
+pub mod SmallSides

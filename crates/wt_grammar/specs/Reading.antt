@@ -1,6 +1,6 @@
 -- A statement read from left to right. A reading gives a value and how many tokens it took, or the first refusal and its
 -- place. Its only recursion is on the levels of nesting that are left.
-use Rattle.std.specs.Prelude.{ℕ, zero, suc, ◌^◌, Bool, true, false, ◌&&◌, ◌||◌, if◌then◌else◌, nat_lt, List, [], ◌∷◌, drop, Option, Some, None, Result, Ok, Err, pos, neg_ℤ}
+use Rattle.std.specs.Prelude.{ℕ, zero, suc, ◌^◌, Bool, true, false, ◌&&◌, ◌||◌, if◌then◌else◌, nat_lt, List, [], ◌∷◌, drop, Option, Some, None, Ok, Err, pos, neg_ℤ}
 use Rattle.wt_value.specs.declared.value.Value.{Value}
 use Rattle.wt_value.specs.declared.value.Value.TheVariants as value
 use Rattle.wt_lex.specs.declared.token.LexFault.{LexFault}
@@ -16,7 +16,7 @@ use Rattle.wt_ast.specs.declared.tree.CmpWord.{CmpWord}
 use Rattle.wt_ast.specs.declared.tree.CmpWord.TheVariants as cmp
 use Rattle.wt_ast.specs.Tree.{QueryTree, FilterTree, FromTree, CondTree, CondTrees, select, no_filter, filter_by, table, derived, inner_join, left_join, right_join, comma, compare, is_null, is_not_null, in_list, in_query, all_of, any_of, negated, no_conds, cond_then, trees_of, cond_at}
 use Rattle.wt_reading.specs.declared.lexeme.Kind.{Kind}
-use Rattle.wt_reading.specs.declared.lexeme.Kind.TheVariants.{Name, Number, Text, Mark}
+use Rattle.wt_reading.specs.declared.lexeme.Kind.TheVariants.{Number, Text, Mark}
 use Rattle.wt_grammar.specs.declared.join.JoinKind.{JoinKind}
 use Rattle.wt_grammar.specs.declared.join.JoinKind.TheVariants as joining
 use Rattle.wt_grammar.specs.declared.fault.QueryFault.{QueryFault}
@@ -102,9 +102,13 @@ abbrev pub closes_tuple : {A : Type 0} → Tokens → Reading (Unit {0}) A → B
 closes_tuple ts (Ok x) = is_close (kind (drop x.1 ts)) && in_follows (drop 1 (drop x.1 ts))
 closes_tuple ts (Err e) = false
 
+-- columns with commas, `)`, and IN or NOT IN
+unfoldable pub is_tuple : Tokens → Bool
+is_tuple ts = closes_tuple ts (list column_front ts)
+
 -- the parenthesis at the front opens a tuple
 unfoldable pub opens_tuple : Tokens → Bool
-opens_tuple ts = closes_tuple (drop 1 ts) (list column_front (drop 1 ts))
+opens_tuple ts = is_tuple (drop 1 ts)
 
 -- the name and the text of the token at the front
 unfoldable pub name_at : List ℕ → Tokens → List ℕ

@@ -7,8 +7,10 @@ use Rattle.wt_lex.specs.declared.token.LexFault.{LexFault}
 use Rattle.wt_lex.specs.declared.token.Sym.TheVariants as sym
 use Rattle.wt_lex.specs.Tokens.{lexed}
 use Rattle.wt_ast.specs.Tree.{QueryTree}
+use Rattle.wt_ast.specs.declared.marks.Mark.{Mark}
 use Rattle.wt_ast.specs.declared.marks.Marked.TheVariants.{FromItem, Conjunct, HiddenIn}
 use Rattle.wt_ast.specs.Marks.{marks, places}
+use Rattle.wt_grammar.specs.declared.fault.QueryFault.{QueryFault}
 use Rattle.wt_grammar.specs.declared.fault.QueryFault.TheVariants as fault
 use Rattle.wt_reading.specs.Lexemes.{lexeme}
 use Rattle.wt_grammar.specs.Reading.{Refusal, refused, odd, Read, statement}
@@ -80,20 +82,28 @@ earlier (Some a) None = Some a
 earlier (Some a) (Some b) = Some (min a b)
 
 -- where the 257th FROM item or the 257th conjunct stands, the first of the two
-abbrev pub crowded : QueryTree → Option ℕ
-crowded q = earlier (slice_get (places FromItem (marks q)) 256) (slice_get (places Conjunct (marks q)) 256)
+abbrev pub crowded : List Mark → Option ℕ
+crowded ms = earlier (slice_get (places FromItem ms) 256) (slice_get (places Conjunct ms) 256)
 
-abbrev pub counted : Option ℕ → QueryTree → Answer
-counted None q = Ok q
-counted (Some at) q = Err (refused fault.TooMany, at)
+abbrev pub too_many : Option ℕ → Option (QueryFault × ℕ)
+too_many None = None
+too_many (Some at) = Some (fault.TooMany, at)
 
-abbrev pub placed : Option ℕ → QueryTree → Answer
-placed None q = counted (crowded q) q
-placed (Some at) q = Err (refused fault.InUnderOr, at)
+abbrev pub hidden_or : Option ℕ → Option (QueryFault × ℕ) → Option (QueryFault × ℕ)
+hidden_or None other = other
+hidden_or (Some at) other = Some (fault.InUnderOr, at)
 
--- a query that was read, unless a query in it stands below Or or Not, or it has too many parts
+-- why a tree with these marks is refused: a query in it stands below Or or Not, or it has too many parts
+abbrev pub barred : List Mark → Option (QueryFault × ℕ)
+barred ms = hidden_or (slice_get (places HiddenIn ms) 0) (too_many (crowded ms))
+
+abbrev pub unless : Option (QueryFault × ℕ) → QueryTree → Answer
+unless None q = Ok q
+unless (Some e) q = Err (refused e.0, e.1)
+
+-- a query that was read, unless it is barred
 abbrev pub limited : Read QueryTree → Answer
-limited (Ok x) = placed (slice_get (places HiddenIn (marks x.0)) 0) x.0
+limited (Ok x) = unless (barred (marks x.0)) x.0
 limited (Err e) = Err e
 
 abbrev pub lexical_or : Option (LexFault × ℕ) → Answer → Answer

@@ -1,4 +1,4 @@
-mod NamedRows
+pub mod NamedRows
 mod Sides
-mod Columns
+pub mod Columns
 mod Meetings

@@ -7,8 +7,6 @@ mod meeting;
 mod named;
 mod operator;
 mod picked;
-#[cfg(test)]
-mod tests;
 
 pub use evaluate::bag;
 pub use instance::{

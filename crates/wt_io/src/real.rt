@@ -3,7 +3,7 @@ ghost use Rattle.std.specs.Prelude.{◌≡◌, ◌<◌, ◌≤◌, None, length,
 
 use crate::store::{Sink, SinkFailed, Store, StoreFailed};
 use std::alloc::Global;
-use std::io::{Read, Seek, SeekFrom, Write};
+use std::io::{ErrorKind, Read, Seek, SeekFrom, Write};
 use std::rt::Files;
 use std::{fs, io};
 
@@ -24,13 +24,26 @@ pub struct FileStore<R: Files> {
     faults: u64,
 }
 
+/// Reads what one call gives; a call that a signal interrupts is made again.
+fn read_some<F: Read>(file: &mut F, buf: &mut [u8]) -> io::Result<usize>
+    ensures { IfOk result (λ n. n ≤ length buf.new) }
+{
+    for _ in 0..u64::MAX {
+        match file.read(buf) {
+            Err(error) if error.kind() == ErrorKind::Interrupted => {}
+            read => return read,
+        }
+    }
+    Err(io::Error::from(ErrorKind::Interrupted))
+}
+
 /// Fills the buffer as far as the file goes, and answers how far that is.
 fn fill<F: Read>(file: &mut F, buf: &mut [u8]) -> io::Result<usize>
     ensures { IfOk result (λ n. n ≤ length buf.new) }
 {
     let mut filled = 0;
     while filled < buf.len() {
-        let n = file.read(&mut buf[filled..])?;
+        let n = read_some(file, &mut buf[filled..])?;
         if n == 0 {
             break;
         }
@@ -101,6 +114,19 @@ impl<R: Files + Drop> Store for FileStore<R> {
     }
 }
 
+/// Writes what one call takes; a call that a signal interrupts is made again.
+fn write_some<W: Write>(out: &mut W, piece: &[u8]) -> io::Result<usize>
+    ensures { IfOk result (λ n. n ≤ length piece.now) }
+{
+    for _ in 0..u64::MAX {
+        match out.write(piece) {
+            Err(error) if error.kind() == ErrorKind::Interrupted => {}
+            written => return written,
+        }
+    }
+    Err(io::Error::from(ErrorKind::Interrupted))
+}
+
 /// The standard output of a runtime.
 #[derive(Drop)]
 pub struct StdoutSink<R: Print> {
@@ -120,7 +146,7 @@ impl<R: Print + Drop> StdoutSink<R> {
         ensures { IfOk result (λ n. n ≤ length piece.now) }
     {
         let mut out = io::writer(&self.rt);
-        let n = out.write(piece)?;
+        let n = write_some(&mut out, piece)?;
         out.flush()?;
         Ok(n)
     }

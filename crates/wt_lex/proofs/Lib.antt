@@ -1,7 +1,13 @@
+pub mod Beginning
 pub mod Cutting
+pub mod Falling
+pub mod Fronting
 pub mod Lexing
 pub mod Naming
 pub mod Numbers
 pub mod Ordering
 pub mod Reserving
+pub mod Returning
+pub mod Splits
 pub mod Standing
+pub mod Symbols

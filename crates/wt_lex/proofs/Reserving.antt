@@ -120,7 +120,7 @@ reserved word.Window = refl
 reserved word.With = refl
 
 -- each is spelled in lower case
-lower : (w : Word) → folded (spelling w) ≡ spelling w
+pub lower : (w : Word) → folded (spelling w) ≡ spelling w
 lower word.All = refl
 lower word.And = refl
 lower word.As = refl

@@ -11,8 +11,8 @@ use Rattle.wt_pair.specs.Candidates.{anchorings}
 use Rattle.wt_pair.specs.Walk.{nth_anchoring}
 
 -- the powers that count anchorings are small
-pub small_power : (r n : ℕ) → r ≤ 4 → n ≤ 6 → r ^ n ≤ 4096
-small_power r n h g = le_trans (pow-le-pow_left h n) (pow-le-pow_right {n = 4} (omega arith) g)
+pub small_power : (r n : ℕ) → r ≤ 5 → n ≤ 8 → r ^ n ≤ 390625
+small_power r n h g = le_trans (pow-le-pow_left h n) (pow-le-pow_right {n = 5} (omega arith) g)
 
 pub length-numbers : (i n : ℕ) → length (numbers_from i n) ≡ n
 length-numbers i zero = refl

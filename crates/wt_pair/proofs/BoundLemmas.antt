@@ -1,13 +1,13 @@
--- How many templates, destinations and pairs there are at most within the limits.
-use Rattle.std.proofs.Common.{◌≡◌, ℕ, zero, suc, ◌+◌, ◌*◌, ◌^◌, ◌<◌, ◌≤◌, Bool, true, false, List, [], ◌∷◌, map, length, refl, ap, arith, length-append}
-use Rattle.std.specs.Prelude.{filter, ◌==◌, if◌then◌else◌}
+-- How many templates and destinations there are at most within the limits.
+use Rattle.std.proofs.Common.{◌≡◌, ℕ, zero, suc, ◌+◌, ◌*◌, ◌<◌, ◌≤◌, true, false, List, [], ◌∷◌, map, length, refl, ap, arith, length-append}
+use Rattle.std.specs.Prelude.{◌==◌, if◌then◌else◌}
 use Rattle.std.specs.Int.{bit_at}
 use Rattle.std.specs.List.{flat_map}
 use Rattle.std.proofs.lemmas.List.{length-map}
 use Rattle.std.proofs.lemmas.Nat.{mul-le}
 use Rattle.std.proofs.lemmas.Nat.Bits.{bit_at-lt}
 use Rattle.wt_bag.specs.Bags.{Each}
-use Rattle.wt_bag.proofs.EachLaws.{each_append, each_map, each_flat_map, each_for, each_implies}
+use Rattle.wt_bag.proofs.EachLaws.{each_append, each_map, each_flat_map, each_implies}
 use Rattle.wt_template.specs.declared.place.Variants.{Variants}
 use Rattle.wt_template.specs.Order.{of_one, numbers_from, splits_from, over_two, under_root, trees}
 use Rattle.wt_template.specs.Places.{pairs_before, number_of_trees}
@@ -16,12 +16,11 @@ use Rattle.wt_template.specs.Shapes.{input as any_input, proj as any_proj, filte
 use Rattle.wt_template.proofs.OrderLemmas.{trees-bound}
 use Rattle.wt_template.proofs.RootLemmas.{AreCounts, length_six}
 use Rattle.wt_symbol.specs.Sides.{SideTree, PairTree}
-use Rattle.wt_pair.specs.declared.bounds.Bounds.{Bounds}
 use Rattle.wt_pair.specs.declared.source.Symbols.{Symbols}
-use Rattle.wt_pair.specs.Candidates.{makers, leaf_count, list_count, pred_count, source_of, anchorings, destinations_over, destinations, is_lawful, pairs_of_anchoring, pairs_of_template, pairs_of}
+use Rattle.wt_pair.specs.Candidates.{makers, leaf_count, list_count, pred_count, destinations_over}
 use Rattle.wt_pair.specs.Dests.{destinations_of_size, variants_of}
 use Rattle.wt_pair.specs.Walk.{symbols_of, IsSmall}
-use Rattle.wt_pair.proofs.AnchorLemmas.{small_power, length-anchorings, length-numbers}
+use Rattle.wt_pair.proofs.AnchorLemmas.{length-numbers}
 use Rattle.wt_pair.proofs.DestLemmas.{side_leaves, are_counts_by, letter_length}
 
 -- ---- trees of one size
@@ -51,50 +50,53 @@ module _ (ops : ℕ) (s : Symbols) (small : IsSmall s) where
   unfolding lengths
   lengths-is n i h = ap length (trees-bound (side_leaves s) (makers ops s.lists s.preds) n i i h (omega arith))
 
-  next-le : (n C Q : ℕ) → lengths n n ≤ C → pairs_before (lengths n) 0 n (suc n) ≤ Q → length (destinations_of_size ops s (suc n)) ≤ 25 * C + 78 * Q
+  next-le : (n C Q : ℕ) → lengths n n ≤ C → pairs_before (lengths n) 0 n (suc n) ≤ Q → length (destinations_of_size ops s (suc n)) ≤ 41 * C + 136 * Q
   unfolding lengths
   next-le n C Q hC hQ =
-      let pl : s.preds * s.lists ≤ 18 = mul-le s.preds s.lists 3 6 small.preds small.lists in
-      let ll : s.lists * s.lists ≤ 36 = mul-le s.lists s.lists 6 6 small.lists small.lists in
+      let pl : s.preds * s.lists ≤ 32 = mul-le s.preds s.lists 4 8 small.preds small.lists in
+      let ll : s.lists * s.lists ≤ 64 = mul-le s.lists s.lists 8 8 small.lists small.lists in
       let bit = bit_at-lt ops 5 in
       let many = length_six _ n _ _ _ _ _ _ (variants_of ops s.lists s.preds) (lengths n) (are_counts_by ops n s (lengths n) (λ i h. refl)) in
-      let bound = trees-le (variants_of ops s.lists s.preds) (lengths n) n 6 18 36 36 6 1 C Q (letter-le ops 0 s.lists 6 small.lists) (letter-le ops 1 (s.preds * s.lists) 18 pl)
-      (letter-le ops 2 (s.lists * s.lists) 36 ll) (letter-le ops 3 (s.lists * s.lists) 36 ll) (letter-le ops 4 s.lists 6 small.lists) (omega arith) hC hQ in
+      let bound = trees-le (variants_of ops s.lists s.preds) (lengths n) n 8 32 64 64 8 1 C Q (letter-le ops 0 s.lists 8 small.lists) (letter-le ops 1 (s.preds * s.lists) 32 pl)
+      (letter-le ops 2 (s.lists * s.lists) 64 ll) (letter-le ops 3 (s.lists * s.lists) 64 ll) (letter-le ops 4 s.lists 8 small.lists) (omega arith) hC hQ in
       rw many (omega (arith, bound))
 
-  size_0 : length (destinations_of_size ops s 0) ≤ 4
+  size_0 : length (destinations_of_size ops s 0) ≤ 5
   size_0 = rw (length-map (numbers_from 0 s.leaves) (λ r. Rattle.wt_symbol.specs.Sides.input r), length-numbers 0 s.leaves) small.leaves
 
-  size_1 : length (destinations_of_size ops s 1) ≤ 1348
+  size_1 : length (destinations_of_size ops s 1) ≤ 3605
   size_1 =
-      let c0 : lengths 0 0 ≤ 4 = rw (lengths-is 0 0 (omega arith)) size_0 in
-      next-le 0 4 16 c0 (mul-le (lengths 0 0) (lengths 0 0) 4 4 c0 c0)
+      let c0 : lengths 0 0 ≤ 5 = rw (lengths-is 0 0 (omega arith)) size_0 in
+      next-le 0 5 25 c0 (mul-le (lengths 0 0) (lengths 0 0) 5 5 c0 c0)
 
-  size_2 : length (destinations_of_size ops s 2) ≤ 874852
+  size_2 : length (destinations_of_size ops s 2) ≤ 5050605
   size_2 =
-      let c0 : lengths 1 0 ≤ 4 = rw (lengths-is 1 0 (omega arith)) size_0 in
-      let c1 : lengths 1 1 ≤ 1348 = rw (lengths-is 1 1 (omega arith)) size_1 in
-      next-le 1 1348 10784 c1 (omega (arith, mul-le (lengths 1 0) (lengths 1 1) 4 1348 c0 c1, mul-le (lengths 1 1) (lengths 1 0) 1348 4 c1 c0))
+      let c0 : lengths 1 0 ≤ 5 = rw (lengths-is 1 0 (omega arith)) size_0 in
+      let c1 : lengths 1 1 ≤ 3605 = rw (lengths-is 1 1 (omega arith)) size_1 in
+      next-le 1 3605 36050 c1 (omega (arith, mul-le (lengths 1 0) (lengths 1 1) 5 3605 c0 c1, mul-le (lengths 1 1) (lengths 1 0) 3605 5 c1 c0))
 
-  size_3 : length (destinations_of_size ops s 3) ≤ 709513060
+  size_3 : length (destinations_of_size ops s 3) ≤ 8843357005
   size_3 =
-      let c0 : lengths 2 0 ≤ 4 = rw (lengths-is 2 0 (omega arith)) size_0 in
-      let c1 : lengths 2 1 ≤ 1348 = rw (lengths-is 2 1 (omega arith)) size_1 in
-      let c2 : lengths 2 2 ≤ 874852 = rw (lengths-is 2 2 (omega arith)) size_2 in
-      next-le 2 874852 8815920 c2
-      (omega (
-        arith,
-        mul-le (lengths 2 0) (lengths 2 2) 4 874852 c0 c2,
-        mul-le (lengths 2 1) (lengths 2 1) 1348 1348 c1 c1,
-        mul-le (lengths 2 2) (lengths 2 0) 874852 4 c2 c0,
-      ))
+      let c0 : lengths 2 0 ≤ 5 = rw (lengths-is 2 0 (omega arith)) size_0 in
+      let c1 : lengths 2 1 ≤ 3605 = rw (lengths-is 2 1 (omega arith)) size_1 in
+      let c2 : lengths 2 2 ≤ 5050605 = rw (lengths-is 2 2 (omega arith)) size_2 in
+      next-le 2 5050605 63502075 c2 (omega (arith, mul-le (lengths 2 0) (lengths 2 2) 5 5050605 c0 c2, mul-le (lengths 2 1) (lengths 2 1) 3605 3605 c1 c1, mul-le (lengths 2 2) (lengths 2 0) 5050605 5 c2 c0))
 
-  size-le : (n : ℕ) → n ≤ 3 → length (destinations_of_size ops s n) ≤ 709513060
+  size_4 : length (destinations_of_size ops s 4) ≤ 17341964402805
+  size_4 =
+      let c0 : lengths 3 0 ≤ 5 = rw (lengths-is 3 0 (omega arith)) size_0 in
+      let c1 : lengths 3 1 ≤ 3605 = rw (lengths-is 3 1 (omega arith)) size_1 in
+      let c2 : lengths 3 2 ≤ 5050605 = rw (lengths-is 3 2 (omega arith)) size_2 in
+      let c3 : lengths 3 3 ≤ 8843357005 = rw (lengths-is 3 3 (omega arith)) size_3 in
+      next-le 3 8843357005 124848432100 c3 (omega (arith, mul-le (lengths 3 0) (lengths 3 3) 5 8843357005 c0 c3, mul-le (lengths 3 1) (lengths 3 2) 3605 5050605 c1 c2, mul-le (lengths 3 2) (lengths 3 1) 5050605 3605 c2 c1, mul-le (lengths 3 3) (lengths 3 0) 8843357005 5 c3 c0))
+
+  size-le : (n : ℕ) → n ≤ 4 → length (destinations_of_size ops s n) ≤ 17341964402805
   size-le zero h = omega (arith, size_0)
   size-le (suc zero) h = omega (arith, size_1)
   size-le (suc (suc zero)) h = omega (arith, size_2)
-  size-le (suc (suc (suc zero))) h = size_3
-  size-le (suc (suc (suc (suc n)))) h = absurd (omega arith)
+  size-le (suc (suc (suc zero))) h = omega (arith, size_3)
+  size-le (suc (suc (suc (suc zero)))) h = size_4
+  size-le (suc (suc (suc (suc (suc n))))) h = absurd (omega arith)
 
 -- ---- lists joined end to end
 
@@ -105,27 +107,15 @@ length-numbers_map f B e i (suc m) few h =
     let rest = length-numbers_map f B e (suc i) m few (omega arith) in
     grind (arith, length-append (f i) (flat_map f (numbers_from (suc i) m)), here, rest)
 
-pub length-each_map : {X Y : Type 0} (f : X → List Y) (B : ℕ) (xs : List X) → Each (λ x. length (f x) ≤ B) xs → length (flat_map f xs) ≤ length xs * B
-length-each_map f B [] h = omega arith
-length-each_map f B (x ∷ xs) h = grind (arith, length-append (f x) (flat_map f xs), h.0, length-each_map f B xs h.1)
-
-length-filter_le : {X : Type 0} (p : X → Bool) (xs : List X) → length (filter p xs) ≤ length xs
-length-filter_le p [] = omega arith
-length-filter_le p (x ∷ xs) =
-    elim (p x) as (λ b. length (if b then x ∷ filter p xs else filter p xs) ≤ suc (length xs)) [
-      | true ↦ let rest = length-filter_le p xs in omega (arith, rest)
-      | false ↦ let rest = length-filter_le p xs in omega (arith, rest)
-    ]
-
-pub destinations-le : (ops most : ℕ) (s : Symbols) → IsSmall s → most ≤ 3 → length (destinations_over ops most s.leaves s.lists s.preds) ≤ 2838052240
+pub destinations-le : (ops most : ℕ) (s : Symbols) → IsSmall s → most ≤ 4 → length (destinations_over ops most s.leaves s.lists s.preds) ≤ 86709822014025
 destinations-le ops most s small h =
-    let each : (j : ℕ) → j < suc most → length (trees (side_leaves s) (makers ops s.lists s.preds) (0 + suc most) j) ≤ 709513060 =
+    let each : (j : ℕ) → j < suc most → length (trees (side_leaves s) (makers ops s.lists s.preds) (0 + suc most) j) ≤ 17341964402805 =
     λ j within.
     let same : trees (side_leaves s) (makers ops s.lists s.preds) (0 + suc most) j ≡ destinations_of_size ops s j =
     trees-bound (side_leaves s) (makers ops s.lists s.preds) (0 + suc most) j j (omega arith) (omega arith) in
     rw same (size-le ops s small j (omega arith)) in
-    let all = length-numbers_map (trees (side_leaves s) (makers ops s.lists s.preds) (0 + suc most)) 709513060 (suc most) 0 (suc most) each (omega arith) in
-    omega (arith, all, mul-le (suc most) 709513060 4 709513060 (omega arith) (omega arith))
+    let all = length-numbers_map (trees (side_leaves s) (makers ops s.lists s.preds) (0 + suc most)) 17341964402805 (suc most) 0 (suc most) each (omega arith) in
+    omega (arith, all, mul-le (suc most) 17341964402805 5 17341964402805 (omega arith) (omega arith))
 
 -- ---- templates
 
@@ -187,22 +177,31 @@ module _ (ops : ℕ) where
       t_next-le 2 54 144 c2
       (omega (arith, mul-le (t_lengths 2 0) (t_lengths 2 2) 1 54 c0 c2, mul-le (t_lengths 2 1) (t_lengths 2 1) 6 6 c1 c1, mul-le (t_lengths 2 2) (t_lengths 2 0) 54 1 c2 c0))
 
-  t_size-le : (n : ℕ) → n ≤ 3 → length (templates_of_size ops n) ≤ 594
+  t_size_4 : length (templates_of_size ops 4) ≤ 7290
+  t_size_4 =
+      let c0 : t_lengths 3 0 ≤ 1 = rw (t_lengths-is 3 0 (omega arith)) (omega arith) in
+      let c1 : t_lengths 3 1 ≤ 6 = rw (t_lengths-is 3 1 (omega arith)) t_size_1 in
+      let c2 : t_lengths 3 2 ≤ 54 = rw (t_lengths-is 3 2 (omega arith)) t_size_2 in
+      let c3 : t_lengths 3 3 ≤ 594 = rw (t_lengths-is 3 3 (omega arith)) t_size_3 in
+      t_next-le 3 594 1836 c3 (omega (arith, mul-le (t_lengths 3 0) (t_lengths 3 3) 1 594 c0 c3, mul-le (t_lengths 3 1) (t_lengths 3 2) 6 54 c1 c2, mul-le (t_lengths 3 2) (t_lengths 3 1) 54 6 c2 c1, mul-le (t_lengths 3 3) (t_lengths 3 0) 594 1 c3 c0))
+
+  t_size-le : (n : ℕ) → n ≤ 4 → length (templates_of_size ops n) ≤ 7290
   t_size-le zero h = omega arith
   t_size-le (suc zero) h = omega (arith, t_size_1)
   t_size-le (suc (suc zero)) h = omega (arith, t_size_2)
-  t_size-le (suc (suc (suc zero))) h = t_size_3
-  t_size-le (suc (suc (suc (suc n)))) h = absurd (omega arith)
+  t_size-le (suc (suc (suc zero))) h = omega (arith, t_size_3)
+  t_size-le (suc (suc (suc (suc zero)))) h = t_size_4
+  t_size-le (suc (suc (suc (suc (suc n))))) h = absurd (omega arith)
 
-  pub templates-le : (src : ℕ) → src ≤ 3 → length (templates ops src) ≤ 1782
+  pub templates-le : (src : ℕ) → src ≤ 4 → length (templates ops src) ≤ 29160
   templates-le src h =
-      let each : (j : ℕ) → j < 1 + src → length (trees (any_input ∷ []) (any_makers ops) (1 + src) j) ≤ 594 =
+      let each : (j : ℕ) → j < 1 + src → length (trees (any_input ∷ []) (any_makers ops) (1 + src) j) ≤ 7290 =
       λ j within.
       let same : trees (any_input ∷ []) (any_makers ops) (1 + src) j ≡ templates_of_size ops j =
       trees-bound (any_input ∷ []) (any_makers ops) (1 + src) j j (omega arith) (omega arith) in
       rw same (t_size-le j (omega arith)) in
-      let all = length-numbers_map (trees (any_input ∷ []) (any_makers ops) (1 + src)) 594 (1 + src) 1 src each (omega arith) in
-      omega (arith, all, mul-le src 594 3 594 h (omega arith))
+      let all = length-numbers_map (trees (any_input ∷ []) (any_makers ops) (1 + src)) 7290 (1 + src) 1 src each (omega arith) in
+      omega (arith, all, mul-le src 7290 4 7290 h (omega arith))
 
 -- ---- sizes of templates
 
@@ -292,32 +291,9 @@ preds-le (any_left_join t u) = omega (arith, preds-le t, preds-le u)
 preds-le (any_in_sub t u) = omega (arith, preds-le t, preds-le u)
 preds-le (any_dedup t) = omega (arith, preds-le t)
 
-pub small_symbols : (t : Shape) → size_of t ≤ 3 → IsSmall (symbols_of t)
+pub small_symbols : (t : Shape) → size_of t ≤ 4 → IsSmall (symbols_of t)
 small_symbols t h = record {
   leaves = omega (arith, leaves-le t);
   lists = omega (arith, lists-le t);
   preds = omega (arith, preds-le t);
 }
-
--- ---- pairs
-
-pub pairs-le : (b : Bounds) → b.src ≤ 3 → b.dst ≤ 3 → length (pairs_of b) < 2 ^ 64
-pairs-le b src dst =
-    let of_anchoring : (t : Shape) → size_of t ≤ b.src → (anchors : List ℕ) → length (pairs_of_anchoring b.ops.0 b.dst t anchors) ≤ 2838052240 =
-    λ t h anchors.
-    let few = destinations-le b.ops.0 b.dst (symbols_of t) (small_symbols t (omega arith)) dst in
-    let make : SideTree → PairTree = λ d. record { source = source_of t; dest = d; anchors = anchors } in
-    let same = length-map (destinations b.ops.0 b.dst t) make in
-    let kept = length-filter_le is_lawful (map make (destinations b.ops.0 b.dst t)) in
-    omega (arith, few, same, kept) in
-    let of_template : (t : Shape) → size_of t ≤ b.src → length (pairs_of_template b.ops.0 b.dst t) ≤ 11624661975040 =
-    λ t h.
-    let small = small_symbols t (omega arith) in
-    let many = length-each_map (pairs_of_anchoring b.ops.0 b.dst t) 2838052240 (anchorings (leaf_count t) (list_count t))
-    (each_for (anchorings (leaf_count t) (list_count t)) (of_anchoring t h)) in
-    let ways = length-anchorings (leaf_count t) (list_count t) in
-    let few = small_power (leaf_count t) (list_count t) small.leaves small.lists in
-    omega (arith, many, mul-le (length (anchorings (leaf_count t) (list_count t))) 2838052240 4096 2838052240 (omega (arith, ways, few)) (omega arith)) in
-    let all = length-each_map (pairs_of_template b.ops.0 b.dst) 11624661975040 (templates b.ops.0 b.src)
-    (each_implies (λ t. size_of t ≤ b.src) (λ t. length (pairs_of_template b.ops.0 b.dst t) ≤ 11624661975040) (templates b.ops.0 b.src) of_template (each_template b.ops.0 b.src)) in
-    omega (arith, all, mul-le (length (templates b.ops.0 b.src)) 11624661975040 1782 11624661975040 (templates-le b.ops.0 b.src src) (omega arith))

@@ -1,5 +1,5 @@
 -- A lot among the pairs of the bounds.
-use Rattle.std.proofs.Common.{◌≡◌, ℕ, ◌+◌, ◌≤◌, Bool, true, false, List, [], ◌∷◌, ◌++◌, map, length, take, drop, Option, Some, None, inl, inr, refl, sym, ap, ◌∙◌, arith, length-append, length-drop, length-take, append_assoc}
+use Rattle.std.proofs.Common.{◌≡◌, ℕ, ◌+◌, ◌-◌, ◌^◌, ◌≤◌, min, Bool, true, false, List, [], ◌∷◌, ◌++◌, map, length, take, drop, Option, Some, None, inl, inr, refl, sym, ap, ◌∙◌, arith, length-append, length-drop, length-take, append_assoc}
 use Rattle.std.proofs.lemmas.List.{append-nil, drop-drop, drop_at, take_at, take_all, take-append-drop, nil_from_length}
 use Rattle.std.specs.Prelude.{All, filter, is_none, if◌then◌else◌}
 use Rattle.std.proofs.lemmas.List.{length-map}
@@ -15,7 +15,7 @@ use Rattle.wt_pair.specs.declared.bounds.Bounds.{Bounds}
 use Rattle.wt_pair.specs.declared.walk.Cursor.{Cursor}
 use Rattle.wt_pair.specs.declared.lot.Lot.{Lot}
 use Rattle.wt_pair.specs.Candidates.{leaf_count, list_count, source_of, destinations, anchorings, is_lawful, pairs_of_anchoring, pairs_of_template, pairs_of}
-use Rattle.wt_pair.specs.Track.{IsOnTrack}
+use Rattle.wt_pair.specs.Track.{IsOnTrack, given, rest_at}
 use Rattle.wt_pair.specs.Lots.{IsNextLot}
 use Rattle.wt_pair.specs.Walk.{Fills, Progress}
 
@@ -80,25 +80,53 @@ lot_lawful b f pairs is =
     let each : Each IsLawful (map pair_of pairs) = rw is (each_take IsLawful 4096 _ (each_drop IsLawful f _ (each_lawful b))) in
     all_from_each (λ p. IsLawful (pair_of p)) pairs (each_of_map IsLawful pair_of pairs each)
 
-pub on_track : (b : Bounds) (at : Cursor) (f m n : ℕ) → m ≡ n → IsOnTrack b at (f + n) → IsOnTrack b at (f + m)
-on_track b at f m n e h = rw e h
+-- ---- a lot behind a place
 
-pub lot_is : (b : Bounds) (f n : ℕ) (old : Progress) (lot : Lot) (had from rest : List PairTree) → record { bounds = b; first = f } ≡ old → had ≡ [] →
-    from ≡ drop f (pairs_of b) → f ≤ length (pairs_of b) → Fills 4096 had (map pair_of lot.pairs) from rest → lot.bounds ≡ b → lot.first ≡ f → n ≡ length lot.pairs →
-    IsNextLot old (record { bounds = b; first = f + n }) lot
-lot_is b f n old lot had from rest is none begin within filled same_bounds same_first many =
-    let P = pairs_of b in
-    let count : n ≡ length (map pair_of lot.pairs) = omega (arith, many, length-map lot.pairs pair_of) in
-    let pairs = lot_pairs P had (map pair_of lot.pairs) from rest f none begin filled in
-    rw (← is)
-    (record {
-      bounds = same_bounds;
-      first = same_first;
-      pairs = pairs;
-      lawful = lot_lawful b f lot.pairs pairs;
-      next = ap (λ k. f + k) many;
-      together = rw count (lot_together P had (map pair_of lot.pairs) from rest f none begin filled within);
-    })
+module _ (b : Bounds) (old at : Cursor) (had : List PairTree) (pairs : List Pair) (none : had ≡ []) (filled : Fills 4096 had (map pair_of pairs) (rest_at b old) (rest_at b at)) (first : ℕ) (track : IsOnTrack b old first) where
+  abbrev lot : List PairTree
+  lot = map pair_of pairs
+
+  within : given b old ≤ length (pairs_of b)
+  within = omega arith
+
+  next_rest : rest_at b at ≡ drop (given b old + length lot) (pairs_of b)
+  next_rest = lot_rest (pairs_of b) had lot (rest_at b old) (rest_at b at) (given b old) none track.rest filled
+
+  -- the pairs given before the next place are those given before, and the lot
+  pub next_given : given b at ≡ given b old + length pairs
+  next_given =
+      let more = lot_within (pairs_of b) had lot (rest_at b old) (rest_at b at) (given b old) none track.rest filled within in
+      omega (arith, ap length next_rest, length-drop (given b old + length lot) (pairs_of b), more, length-map pairs pair_of)
+
+  pub next_track : (n m : ℕ) → n ≡ min (first + m) (2 ^ 64 - 1) → m ≡ length pairs → IsOnTrack b at n
+  next_track n m is many = record {
+    limits = track.limits;
+    rest = next_rest ∙ ap (λ k. drop k (pairs_of b)) (sym (next_given ∙ ap (λ k. given b old + k) (sym (length-map pairs pair_of))));
+    counted = let next = next_given in let before = track.counted in omega arith;
+  }
+
+  pub lot_is : (before : Progress) (l : Lot) → record { bounds = b; first = given b old } ≡ before → l.pairs ≡ pairs → l.bounds ≡ b → l.first ≡ first →
+      IsNextLot before (record { bounds = b; first = given b at }) l
+  lot_is before l is same_pairs same_bounds same_first =
+      let many : length pairs ≡ length l.pairs = ap length (sym same_pairs) in
+      let trees : map pair_of l.pairs ≡ lot = ap (map pair_of) same_pairs in
+      let next = lot_pairs (pairs_of b) had lot (rest_at b old) (rest_at b at) (given b old) none track.rest filled in
+      let moved : given b at ≡ given b old + length lot = next_given ∙ ap (λ k. given b old + k) (sym (length-map pairs pair_of)) in
+      rw (← is)
+      (record {
+        bounds = same_bounds;
+        first = same_first ∙ track.counted;
+        pairs = trees ∙ next;
+        lawful = lot_lawful b (given b old) l.pairs (trees ∙ next);
+        next = next_given ∙ ap (λ k. given b old + k) many;
+        together =
+            ap (λ k. take k (pairs_of b)) moved
+            ∙ lot_together (pairs_of b) had lot (rest_at b old) (rest_at b at) (given b old) none track.rest filled within
+            ∙ ap (λ ys. take (given b old) (pairs_of b) ++ ys) (sym trees);
+      })
+
+  pub not_over : (lot ≡ [] → ⊥) → length (pairs_of b) ≤ given b old → ⊥
+  not_over = not_ended (pairs_of b) had lot (rest_at b old) (rest_at b at) (given b old) none track.rest filled
 
 pub not_empty : (pairs : List Pair) (empty : Bool) → empty ≡ false → (pairs ≡ [] → empty ≡ true) → map pair_of pairs ≡ [] → ⊥
 not_empty pairs empty some full none =

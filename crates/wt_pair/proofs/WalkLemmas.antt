@@ -40,7 +40,7 @@ lawful-cons side anchors d ds =
     ≡ (if b then record { source = side; dest = d; anchors = anchors } ∷ [] else []) ++ lawful_pairs side anchors ds) [ true ↦ refl | false ↦ refl ]
 
 module _ (b : Bounds) (side : SideTree) (s : Symbols) (anchors : List ℕ) (k : ℕ) where
-  pub dest_within : IsSmall s → b.dst ≤ 3 → (d : SideTree) → Some d ≡ slice_get (destinations_over b.ops.0 b.dst s.leaves s.lists s.preds) k →
+  pub dest_within : IsSmall s → b.dst ≤ 4 → (d : SideTree) → Some d ≡ slice_get (destinations_over b.ops.0 b.dst s.leaves s.lists s.preds) k →
       (k < length (destinations_over b.ops.0 b.dst s.leaves s.lists s.preds)) × (k + 1 < 2 ^ 64)
   dest_within small dst d found =
       let within = slice_get_within _ k d (sym found) in
@@ -138,7 +138,7 @@ module _ (b : Bounds) (n : ℕ) (t : Shape) (at : Some t ≡ slice_get (template
       resumed_passed (λ u. rest_of_source b (source_of u) (symbols_of u) a d) (λ u. rest_of_source b (source_of u) (symbols_of u) 0 0) (pairs_of_template b.ops.0 b.dst)
       (all_of_template b) (templates b.ops.0 b.src) n t has had (sym at) done so_far
 
-  pub template_small : b.src ≤ 3 → IsSmall (symbols_of t) × (n < length (templates b.ops.0 b.src)) × (n + 1 < 2 ^ 64)
+  pub template_small : b.src ≤ 4 → IsSmall (symbols_of t) × (n < length (templates b.ops.0 b.src)) × (n + 1 < 2 ^ 64)
   template_small src =
       let size = each_get (λ u. size_of u ≤ b.src) (templates b.ops.0 b.src) n t (each_template b.ops.0 b.src) (sym at) in
       let within = slice_get_within (templates b.ops.0 b.src) n t (sym at) in

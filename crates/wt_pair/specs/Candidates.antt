@@ -100,8 +100,8 @@ pairs_of b = flat_map (pairs_of_template b.ops.0 b.dst) (templates b.ops.0 b.src
 -- the bounds are within the limits
 pub record IsWithinLimits (b : Bounds) : Type 0 where
   pub src_low : 1 ≤ b.src
-  pub src_high : b.src ≤ 3
-  pub dst_high : b.dst ≤ 3
+  pub src_high : b.src ≤ 4
+  pub dst_high : b.dst ≤ 4
   pub depth_high : b.depth ≤ 64
   pub steps_low : 1 ≤ b.steps
   pub steps_high : b.steps ≤ 16

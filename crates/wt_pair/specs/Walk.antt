@@ -36,9 +36,9 @@ rest_of_pairs b t a d =
 
 -- as many symbols as a source within the limits has at most
 pub record IsSmall (s : Symbols) : Type 0 where
-  pub leaves : s.leaves ≤ 4
-  pub lists : s.lists ≤ 6
-  pub preds : s.preds ≤ 3
+  pub leaves : s.leaves ≤ 5
+  pub lists : s.lists ≤ 8
+  pub preds : s.preds ≤ 4
 
 -- a walk adds the pairs between two places to those that it had, up to the lot's end or to the end of what is left
 pub record Fills (lot : ℕ) (had has : List PairTree) (from rest : List PairTree) : Type 0 where

@@ -7,8 +7,8 @@ use wt_symbol::Anchors;
 
 /// How many ways there are to anchor lists among leaves.
 pub fn count_anchorings(leaves: u8, lists: u8) -> u64
-    requires leaves { leaves ≤ 4 }
-    requires lists { lists ≤ 6 }
+    requires leaves { leaves ≤ 5 }
+    requires lists { lists ≤ 8 }
     ensures { result ≡ leaves ^ lists }
 {
     u64::from(leaves).pow(u32::from(lists))
@@ -16,8 +16,8 @@ pub fn count_anchorings(leaves: u8, lists: u8) -> u64
 
 /// Adds the anchors of the k-th way.
 fn push_anchoring(leaves: u8, lists: u8, k: u64, anchors: &mut Vec<u8>) -> Result<(), AllocError>
-    requires leaves { leaves ≤ 4 }
-    requires lists { lists ≤ 6 }
+    requires leaves { leaves ≤ 5 }
+    requires lists { lists ≤ 8 }
     requires exists { k < leaves ^ lists }
     ensures { OnOk result (anchors.new.items ≡ anchors.old.items ++ nth_anchoring leaves lists k) }
 {
@@ -32,8 +32,8 @@ fn push_anchoring(leaves: u8, lists: u8, k: u64, anchors: &mut Vec<u8>) -> Resul
 
 /// The k-th way to anchor lists among leaves.
 pub fn anchoring(alloc: Global, leaves: u8, lists: u8, k: u64) -> Result<Anchors, AllocError>
-    requires leaves { leaves ≤ 4 }
-    requires lists { lists ≤ 6 }
+    requires leaves { leaves ≤ 5 }
+    requires lists { lists ≤ 8 }
     requires exists { k < leaves ^ lists }
     ensures { IfOk result (λ anchors. anchors ≡ nth_anchoring leaves lists k) }
 {

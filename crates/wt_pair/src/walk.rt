@@ -60,7 +60,7 @@ fn fill_from_dest(
     pairs: &mut PairList,
 ) -> Result<u64, AllocError>
     requires small { IsSmall source.now.symbols }
-    requires dst { bounds.now.dst ≤ 3 }
+    requires dst { bounds.now.dst ≤ 4 }
     requires room { length pairs.old ≤ LOT }
     ensures { IfOk result (λ d. Fills LOT (map pair_of pairs.old) (map pair_of pairs.new)
         (rest_of_anchoring bounds.now (tree_of source.now.side) source.now.symbols from anchors.now)
@@ -96,7 +96,7 @@ fn fill_anchoring(
     pairs: &mut PairList,
 ) -> Result<u64, AllocError>
     requires small { IsSmall source.now.symbols }
-    requires dst { bounds.now.dst ≤ 3 }
+    requires dst { bounds.now.dst ≤ 4 }
     requires exists { a < source.now.symbols.leaves ^ source.now.symbols.lists }
     requires room { length pairs.old ≤ LOT }
     ensures { IfOk result (λ e. Fills LOT (map pair_of pairs.old) (map pair_of pairs.new)
@@ -127,7 +127,7 @@ fn fill_source(
     pairs: &mut PairList,
 ) -> Result<Spot, AllocError>
     requires small { IsSmall source.now.symbols }
-    requires dst { bounds.now.dst ≤ 3 }
+    requires dst { bounds.now.dst ≤ 4 }
     requires room { length pairs.old ≤ LOT }
     ensures { IfOk result (λ e. Fills LOT (map pair_of pairs.old) (map pair_of pairs.new)
         (rest_of_source bounds.now (tree_of source.now.side) source.now.symbols from.anchoring from.dest)
@@ -156,7 +156,7 @@ fn fill_template(
     pairs: &mut PairList,
 ) -> Result<Spot, AllocError>
     requires small { IsSmall (symbols_of (shape_of template.now)) }
-    requires dst { bounds.now.dst ≤ 3 }
+    requires dst { bounds.now.dst ≤ 4 }
     requires room { length pairs.old ≤ LOT }
     ensures { IfOk result (λ e. Fills LOT (map pair_of pairs.old) (map pair_of pairs.new)
         (rest_of_source bounds.now (source_of (shape_of template.now)) (symbols_of (shape_of template.now)) from.anchoring from.dest)
@@ -176,8 +176,8 @@ fn fill_nth(
     from: Spot,
     pairs: &mut PairList,
 ) -> Result<Option<Spot>, AllocError>
-    requires src { bounds.now.src ≤ 3 }
-    requires dst { bounds.now.dst ≤ 3 }
+    requires src { bounds.now.src ≤ 4 }
+    requires dst { bounds.now.dst ≤ 4 }
     requires room { length pairs.old ≤ LOT }
     ensures none { IfOk result (λ spot. IfNone spot ((None ≡ slice_get (templates bounds.now.ops.0 bounds.now.src) n) × (pairs.new ≡ pairs.old))) }
     ensures some { IfOk result (λ spot. IfSome spot (λ e. (t : Shape) × (Some t ≡ slice_get (templates bounds.now.ops.0 bounds.now.src) n)
@@ -208,8 +208,8 @@ pub fn fill(
     from: Cursor,
     pairs: &mut PairList,
 ) -> Result<Cursor, AllocError>
-    requires src { bounds.now.src ≤ 3 }
-    requires dst { bounds.now.dst ≤ 3 }
+    requires src { bounds.now.src ≤ 4 }
+    requires dst { bounds.now.dst ≤ 4 }
     requires room { length pairs.old ≤ LOT }
     ensures { IfOk result (λ e. Fills LOT (map pair_of pairs.old) (map pair_of pairs.new)
         (rest_of_pairs bounds.now from.template from.spot.anchoring from.spot.dest)

@@ -7,14 +7,15 @@ use Rattle.wt_lex.specs.declared.token.Token.{Token}
 use Rattle.wt_ast.specs.declared.tree.Query.{Query}
 use Rattle.wt_ast.specs.Tree.{QueryTree}
 use Rattle.wt_grammar.specs.declared.fault.QueryFault.TheVariants.{TooLong}
-use Rattle.wt_grammar.specs.Words.{lexeme}
+use Rattle.wt_reading.specs.Lexemes.{lexeme}
 use Rattle.wt_grammar.specs.Reading.{Read, refused, statement}
 use Rattle.wt_grammar.specs.Statements.{Statement, Answer, begin, is_too_long, first_odd, limited, lexical_or, answer}
-use Rattle.wt_parse.specs.declared.error.QueryError.{QueryError}
-use Rattle.wt_parse.specs.declared.error.QueryError.TheVariants as errors
+use Rattle.wt_front.specs.declared.error.QueryError.{QueryError}
+use Rattle.wt_front.specs.declared.error.QueryError.TheVariants as errors
 use Rattle.wt_parse.specs.declared.statements.Piece.{Piece}
-use Rattle.wt_parse.specs.Giving.{Fails}
-use Rattle.wt_parse.specs.Held.{shown, NoOdd, Answers}
+use Rattle.wt_front.specs.Giving.{Fails}
+use Rattle.wt_parse.specs.Held.{shown, NoOdd}
+use Rattle.wt_parse.specs.Outcomes.{Answers}
 use Rattle.wt_parse.proofs.Pieces.{drop_here}
 
 pub begins : (tokens : List Token) (p : Piece) (t : Token) → p.from < p.to → slice_get tokens p.from ≡ Some t → begin (shown tokens p) (shown tokens p).tokens ≡ t.start

@@ -1,9 +1,9 @@
 -- Pieces of a list that grow by one, and the statements that they are.
 use Rattle.std.proofs.Common.{◌≡◌, ℕ, suc, zero, ◌+◌, ◌-◌, ◌<◌, ◌≤◌, Bool, true, false, List, [], ◌∷◌, ◌++◌, length, take, drop, refl, ap, sym, ◌∙◌, arith, append_assoc, append-nil, Some, subst, nat_lt, ◌==◌, length-drop, eq-eqb, Ok}
 use Rattle.std.specs.Prelude.{map, filter, slice_get}
-use Rattle.std.proofs.lemmas.List.{take_more, map-append}
-use Rattle.std.proofs.lemmas.Option.{slice_get_within, get_or_from_slice_get}
+use Rattle.std.proofs.lemmas.List.{map-append}
 use Rattle.wt_lex.specs.declared.token.Token.{Token}
+use Rattle.wt_front.proofs.More.{slice_more}
 use Rattle.wt_parse.specs.declared.statements.Piece.{Piece}
 use Rattle.wt_parse.specs.Held.{piece, kept, shown, Holds}
 use Rattle.std.specs.List.{All}
@@ -12,19 +12,6 @@ use Rattle.std.proofs.lemmas.Bool.{ltb-true, ltb-false, ne_eqb}
 use Rattle.std.proofs.lemmas.List.Elements.{All-append, filter-append}
 use Rattle.wt_lex.specs.Tokens.{lexed}
 use Rattle.wt_grammar.specs.Statements.{Statement, is_semicolon, add, cut, has_tokens, statements}
-
-pub slice_more : {A : Type 0} (from : ℕ) (xs : List A) (i : ℕ) (x : A) → from ≤ i → slice_get xs i ≡ Some x
-    → take (i + 1 - from) (drop from xs) ≡ take (i - from) (drop from xs) ++ x ∷ []
-slice_more zero xs i x h g =
-    let a : i + 1 - 0 ≡ i + 1 = omega arith in
-    let b : i ≡ i - 0 = omega arith in
-    ap (λ n. take n xs) a ∙ take_more xs i x (slice_get_within xs i x g) ∙ (λ j. take (b j) xs ++ get_or_from_slice_get xs i x x g j ∷ [])
-slice_more (suc from) [] i x h g = absurd cc
-slice_more (suc from) (y ∷ xs) zero x h g = absurd (omega arith)
-slice_more (suc from) (y ∷ xs) (suc i) x h g =
-    let a : suc i + 1 - suc from ≡ i + 1 - from = omega arith in
-    let b : i - from ≡ suc i - suc from = omega arith in
-    ap (λ n. take n (drop from xs)) a ∙ slice_more from xs i x (omega arith) g ∙ ap (λ n. take n (drop from xs) ++ x ∷ []) b
 
 -- tokens in front of the first statement
 abbrev pub in_front : List Token → List Statement → List Statement

@@ -1,16 +1,11 @@
--- What the stored form of a file shows: its statements are pieces of its tokens.
-use Rattle.std.specs.Prelude.{◌≡◌, ℕ, ◌-◌, ◌<◌, ◌≤◌, List, [], ◌∷◌, take, drop, length, nat_lt, if◌then◌else◌, Result, Ok, Err, Some, None}
+-- Of private contracts: what the stored form of a file shows, whose statements are pieces of its tokens.
+use Rattle.std.specs.Prelude.{◌≡◌, ℕ, ◌-◌, ◌<◌, ◌≤◌, List, [], ◌∷◌, take, drop, length, nat_lt, if◌then◌else◌, Result, Ok, Err, Option, Some, None}
 use Rattle.wt_lex.specs.declared.token.Token.{Token}
-use Rattle.wt_lex.specs.declared.token.LexFault.{LexFault}
-use Rattle.wt_lex.specs.declared.token.LexError.{LexError}
-use Rattle.wt_lex.specs.declared.token.LexError.TheVariants as lex_errors
-use Rattle.wt_ast.specs.declared.tree.Query.{Query}
-use Rattle.wt_ast.specs.Tree.{query_tree}
-use Rattle.wt_grammar.specs.Reading.{refused, odd}
-use Rattle.wt_grammar.specs.Statements.{Statement, File, Answer, first_odd}
+use Rattle.wt_grammar.specs.declared.fault.QueryFault.{QueryFault}
+use Rattle.wt_grammar.specs.Statements.{Statement, first_odd}
 use Rattle.wt_parse.specs.declared.statements.Piece.{Piece}
-use Rattle.wt_parse.specs.declared.error.QueryError.{QueryError}
-use Rattle.wt_parse.specs.declared.error.QueryError.TheVariants as errors
+use Rattle.wt_front.specs.declared.error.QueryError.{QueryError}
+use Rattle.wt_front.specs.declared.error.QueryError.TheVariants as errors
 
 -- the statement of the tokens from a place to before another
 abbrev pub piece : List Token → ℕ → ℕ → ℕ → Statement
@@ -27,21 +22,15 @@ Holds tokens p = (p.from < p.to) × (p.to ≤ length tokens)
 abbrev pub kept : ℕ → ℕ → ℕ → List Piece
 kept from to end = if nat_lt from to then record { from = from; to = to; end = end } ∷ [] else []
 
--- What reading a file returned is the file that the definition gives, or its fault, unless memory ran out.
-abbrev pub Reads : {X : Type 0} → (X → File) → Result X LexError → Result File (LexFault × ℕ) → Type 0
-Reads view (Ok x) file = file ≡ Ok (view x)
-Reads view (Err lex_errors.Memory) file = Unit {0}
-Reads view (Err (lex_errors.Fault f at)) file = file ≡ Err (f, at)
-
--- What reading a statement returned is the answer that the definition gives, unless memory ran out.
-abbrev pub Answers : Result Query QueryError → Answer → Type 0
-Answers (Ok q) answer = answer ≡ Ok (query_tree q)
-Answers (Err errors.Memory) answer = Unit {0}
-Answers (Err (errors.Refused f at)) answer = answer ≡ Err (refused f, at)
-Answers (Err (errors.Lex f at)) answer = answer ≡ Err (odd f, at)
-
 -- no token is refused wherever it stands, or this is the first that is
 abbrev pub NoOdd : Result (Unit {0}) QueryError → List Token → Type 0
 NoOdd (Ok x) tokens = first_odd tokens ≡ None
 NoOdd (Err (errors.Lex f at)) tokens = first_odd tokens ≡ Some (f, at)
 NoOdd (Err _) tokens = ⊥
+
+-- why a tree is refused, if it is, unless memory ran out
+abbrev pub Bars : Option QueryError → Option (QueryFault × ℕ) → Type 0
+Bars None bar = bar ≡ None
+Bars (Some errors.Memory) bar = Unit {0}
+Bars (Some (errors.Refused f at)) bar = bar ≡ Some (f, at)
+Bars (Some (errors.Lex f at)) bar = ⊥

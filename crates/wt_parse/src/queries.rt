@@ -1,28 +1,33 @@
 //! Conditions, FROM and queries, by recursive descent. Each function reads what the definition of its name reads.
 ghost use Rattle.std.specs.Prelude.{◌≡◌, ◌<◌, ◌≤◌, ◌+◌, length, drop, map, IfOk, true};
 ghost use Rattle.wt_ast.specs.Tree.{condition_tree, filter_tree, from_tree, query_tree};
-ghost use Rattle.wt_grammar.specs.Lexemes as lexemes;
-ghost use Rattle.wt_grammar.specs.Lexemes.{is_and, is_or};
+ghost use Rattle.wt_reading.specs.Lexemes as lexemes;
+ghost use Rattle.wt_grammar.specs.Kinds.{is_and, is_or, begins_join};
+ghost use Rattle.wt_reading.specs.Lexemes.{is_comma};
 ghost use Rattle.wt_grammar.specs.Reading as spec;
-ghost use Rattle.wt_parse.specs.Giving.{Gives, Adds, is_joint};
+ghost use Rattle.wt_reading.specs.Readings as readings;
+ghost use Rattle.wt_front.specs.Giving.{Gives, Adds, is_joint};
 
-use crate::comparisons::{
-    after_not, all_or_one, any_or_one, between, compared, is_part, negation, values,
-};
-use crate::error::QueryError;
-use crate::front::{
-    after, at_and, at_between, at_close, at_end, at_from, at_in, at_is, at_join_words, at_name,
-    at_not, at_on, at_open, at_or, at_select, at_where, expect, kind, no, no_end, no_join,
+use std::alloc::Global;
+use wt_ast::{ColumnName, ColumnNames, CondKind, Condition, FromPart, Item, Items, Query, Scalar};
+use wt_front::QueryError;
+use wt_front::front::{
+    after, at_and, at_between, at_close, at_comma, at_end, at_from, at_in, at_is, at_join_words,
+    at_name, at_not, at_on, at_open, at_or, at_select, at_where, expect, kind, no, no_end, no_join,
     no_join_or_end, no_statement, place,
 };
-use crate::lists::{items, listed_columns};
-use crate::parts::operand;
-use crate::sources::{
-    derived_columns, derived_name, join_words, opens_tuple, quantifier, table_part,
+use wt_grammar::QueryFault;
+use wt_lex::Word;
+use wt_parts::comparisons::{
+    after_not, all_or_one, any_or_one, between, compared, is_part, negation, values,
 };
-use std::alloc::Global;
-use wt_ast::{ColumnName, ColumnNames, CondKind, Condition, FromPart, Items, Query, Scalar};
-use wt_grammar::{JoinKind, Kind, Lexeme, QueryFault, Word};
+use wt_parts::lists::{list, listed};
+use wt_parts::parts::operand;
+use wt_parts::sources::{
+    derived_columns, derived_from, derived_name, join_words, joined_from, listed_from, opens_tuple,
+    quantifier, table_part,
+};
+use wt_reading::{Kind, Lexeme};
 
 // Whether the word between the parts of a run stands here.
 fn at_joint(word: Word, ts: &[Lexeme]) -> bool
@@ -63,7 +68,7 @@ fn more_conj(
     end: u32,
     levels: u32,
 ) -> Result<usize, QueryError>
-    ensures exact { Adds result (map condition_tree parts.old.items) (map condition_tree parts.new.items) (spec.more is_or (spec.conj end bytes.now (spec.nest end bytes.now levels)) 0 ts.now) }
+    ensures exact { Adds result (map condition_tree parts.old.items) (map condition_tree parts.new.items) (readings.more is_or (spec.conj end bytes.now (spec.nest end bytes.now levels)) 0 ts.now) }
     ensures within { IfOk result (λ n. n ≤ length ts.now) }
 {
     let mut at = 0;
@@ -102,7 +107,7 @@ fn more_neg(
     end: u32,
     levels: u32,
 ) -> Result<usize, QueryError>
-    ensures exact { Adds result (map condition_tree parts.old.items) (map condition_tree parts.new.items) (spec.more is_and (spec.neg end bytes.now (spec.nest end bytes.now levels)) 0 ts.now) }
+    ensures exact { Adds result (map condition_tree parts.old.items) (map condition_tree parts.new.items) (readings.more is_and (spec.neg end bytes.now (spec.nest end bytes.now levels)) 0 ts.now) }
     ensures within { IfOk result (λ n. n ≤ length ts.now) }
 {
     let mut at = 0;
@@ -115,7 +120,7 @@ fn more_neg(
 }
 
 #[cycle(read)]
-#[tactic(auto, using(crate::proofs::Nesting::openings), unfolding(wt_grammar::specs::Reading::neg))]
+#[tactic(auto, using(wt_parts::proofs::Nesting::openings), unfolding(wt_grammar::specs::Reading::neg))]
 fn neg(
     alloc: Global,
     bytes: &[u8],
@@ -137,7 +142,7 @@ fn neg(
 }
 
 #[cycle(read)]
-#[tactic(auto, using(crate::proofs::Nesting::openings), unfolding(wt_grammar::specs::Reading::basic, wt_grammar::specs::Reading::expect))]
+#[tactic(auto, using(wt_parts::proofs::Nesting::openings), unfolding(wt_grammar::specs::Reading::basic, wt_reading::specs::Readings::expect))]
 fn basic(
     alloc: Global,
     bytes: &[u8],
@@ -278,7 +283,7 @@ fn tuple_in(
     ensures exact { Gives condition_tree result (spec.tuple_in end bytes.now (spec.nest end bytes.now levels) ts.now) }
     ensures within { IfOk result (λ x. x.1 ≤ length ts.now) }
 {
-    let (columns, n) = listed_columns(alloc, bytes, ts, end, levels)?;
+    let (columns, n) = listed::<ColumnName>(alloc, bytes, ts, end, levels)?;
     let (c, m) = after_tuple(
         alloc,
         bytes,
@@ -339,7 +344,7 @@ fn no_query_end(query: &Query, kind: Kind) -> QueryFault
 
 // A query in parentheses.
 #[cycle(read)]
-#[tactic(auto, using(crate::proofs::Nesting::openings), unfolding(wt_grammar::specs::Reading::expect))]
+#[tactic(auto, using(wt_parts::proofs::Nesting::openings), unfolding(wt_reading::specs::Readings::expect))]
 fn query(
     alloc: Global,
     bytes: &[u8],
@@ -363,7 +368,7 @@ fn query(
 
 // A query behind SELECT.
 #[cycle(read)]
-#[tactic(auto, unfolding(wt_grammar::specs::Reading::body, wt_grammar::specs::Reading::expect))]
+#[tactic(auto, unfolding(wt_grammar::specs::Reading::body, wt_reading::specs::Readings::expect))]
 fn body(
     alloc: Global,
     bytes: &[u8],
@@ -376,11 +381,11 @@ fn body(
 {
     let (distinct, d) = quantifier(ts);
     let rest = after(ts, d);
-    let (items, n) = items(alloc, bytes, rest, end)?;
+    let (items, n) = list::<Item>(alloc, bytes, rest, end)?;
     let rest = after(rest, n);
     let (_, f) = expect(at_from(rest), QueryFault::Syntax, rest, end)?;
     let rest = after(rest, f);
-    let (from, m) = joined(alloc, bytes, rest, end, levels)?;
+    let (from, m) = from_list(alloc, bytes, rest, end, levels)?;
     let (filter, k) = filter(alloc, bytes, after(rest, m), end, levels)?;
     let items = Items::from_vec(items);
     Ok((
@@ -414,7 +419,7 @@ fn filter(
 }
 
 #[cycle(read)]
-#[tactic(auto, using(crate::proofs::Nesting::openings), unfolding(wt_grammar::specs::Reading::primary, wt_grammar::specs::Reading::expect))]
+#[tactic(auto, using(wt_parts::proofs::Nesting::openings), unfolding(wt_grammar::specs::Reading::primary, wt_reading::specs::Readings::expect))]
 fn primary(
     alloc: Global,
     bytes: &[u8],
@@ -438,9 +443,9 @@ fn primary(
     if levels == 0 {
         return Err(no(QueryFault::TooDeep, ts, end));
     }
-    let (part, n) = joined(alloc, bytes, inside, end, levels - 1)?;
+    let (part, n) = joined(alloc, bytes, true, inside, end, levels - 1)?;
     let rest = after(inside, n);
-    let (_, m) = expect(at_close(rest), no_join(kind(rest)), rest, end)?;
+    let (_, m) = expect(at_close(rest), no_join(true, kind(rest)), rest, end)?;
     Ok((part, n + m + 1))
 }
 
@@ -463,33 +468,28 @@ fn derived_part(
     let rest = after(ts, n);
     let ((alias, alias_at), m) = derived_name(alloc, bytes, rest, end)?;
     let (columns, k) = derived_columns(alloc, bytes, after(rest, m), end, levels)?;
-    let query = Box::new(alloc, query)?;
     Ok((
-        FromPart::Derived {
-            query,
-            alias,
-            columns,
-            at,
-            alias_at,
-        },
+        derived_from(alloc, query, alias, columns, at, alias_at)?,
         n + m + k,
     ))
 }
 
+// A chain of joins. `inside` says that parentheses round it are open.
 #[cycle(read)]
 #[tactic(auto, unfolding(wt_grammar::specs::Reading::joined))]
 fn joined(
     alloc: Global,
     bytes: &[u8],
+    inside: bool,
     ts: &[Lexeme],
     end: u32,
     levels: u32,
 ) -> Result<(FromPart, usize), QueryError>
-    ensures exact { Gives from_tree result (spec.joined end bytes.now (spec.nest end bytes.now levels) ts.now) }
+    ensures exact { Gives from_tree result (spec.joined end bytes.now (spec.nest end bytes.now levels) inside ts.now) }
     ensures within { IfOk result (λ x. x.1 ≤ length ts.now) }
 {
     let (first, n) = primary(alloc, bytes, ts, end, levels)?;
-    let (part, m) = joins(alloc, bytes, first, after(ts, n), end, levels)?;
+    let (part, m) = joins(alloc, bytes, inside, first, after(ts, n), end, levels)?;
     Ok((part, n + m))
 }
 
@@ -497,18 +497,19 @@ fn joined(
 fn joins(
     alloc: Global,
     bytes: &[u8],
+    inside: bool,
     first: FromPart,
     ts: &[Lexeme],
     end: u32,
     levels: u32,
 ) -> Result<(FromPart, usize), QueryError>
-    ensures exact { Gives from_tree result (spec.joins end bytes.now (spec.nest end bytes.now levels) (from_tree first) 0 ts.now) }
+    ensures exact { Gives from_tree result (readings.repeat (lexemes.at begins_join) (spec.join end bytes.now (spec.nest end bytes.now levels) inside) 0 (from_tree first) ts.now) }
     ensures within { IfOk result (λ x. x.1 ≤ length ts.now) }
 {
     let mut left = first;
     let mut at = 0;
     'parts: while at_join_words(after(ts, at)) {
-        let (wider, m) = join(alloc, bytes, left, after(ts, at), end, levels)?;
+        let (wider, m) = join(alloc, bytes, inside, left, after(ts, at), end, levels)?;
         left = wider;
         at += m;
     }
@@ -516,8 +517,77 @@ fn joins(
 }
 
 #[cycle(read)]
-#[tactic(auto, unfolding(wt_grammar::specs::Reading::join, wt_grammar::specs::Reading::expect))]
+#[tactic(auto, unfolding(wt_grammar::specs::Reading::join, wt_reading::specs::Readings::expect))]
 fn join(
+    alloc: Global,
+    bytes: &[u8],
+    inside: bool,
+    left: FromPart,
+    ts: &[Lexeme],
+    end: u32,
+    levels: u32,
+) -> Result<(FromPart, usize), QueryError>
+    requires { 0 < length ts.now }
+    ensures exact { Gives from_tree result (spec.join end bytes.now (spec.nest end bytes.now levels) inside (from_tree left) ts.now) }
+    ensures within { IfOk result (λ x. (1 ≤ x.1) × (x.1 ≤ length ts.now)) }
+{
+    let (word, n) = join_words(ts, end)?;
+    let rest = after(ts, n);
+    let (right, m) = primary(alloc, bytes, rest, end, levels)?;
+    let rest = after(rest, m);
+    let on_at = place(rest, end);
+    let (_, f) = expect(at_on(rest), no_join(inside, kind(rest)), rest, end)?;
+    let (on, k) = cond(alloc, bytes, after(rest, f), end, levels)?;
+    Ok((
+        joined_from(alloc, word, left, right, on, on_at)?,
+        n + m + f + k,
+    ))
+}
+
+// What stands behind FROM: chains of joins with commas between.
+#[cycle(read)]
+#[tactic(auto, unfolding(wt_grammar::specs::Reading::from_list))]
+fn from_list(
+    alloc: Global,
+    bytes: &[u8],
+    ts: &[Lexeme],
+    end: u32,
+    levels: u32,
+) -> Result<(FromPart, usize), QueryError>
+    ensures exact { Gives from_tree result (spec.from_list end bytes.now (spec.nest end bytes.now levels) ts.now) }
+    ensures within { IfOk result (λ x. x.1 ≤ length ts.now) }
+{
+    let (first, n) = joined(alloc, bytes, false, ts, end, levels)?;
+    let (list, m) = more_from(alloc, bytes, first, after(ts, n), end, levels)?;
+    Ok((list, n + m))
+}
+
+#[cycle(read)]
+fn more_from(
+    alloc: Global,
+    bytes: &[u8],
+    first: FromPart,
+    ts: &[Lexeme],
+    end: u32,
+    levels: u32,
+) -> Result<(FromPart, usize), QueryError>
+    ensures exact { Gives from_tree result (readings.repeat (lexemes.at is_comma) (spec.listed_part end bytes.now (spec.nest end bytes.now levels)) 0 (from_tree first) ts.now) }
+    ensures within { IfOk result (λ x. x.1 ≤ length ts.now) }
+{
+    let mut left = first;
+    let mut at = 0;
+    'parts: while at_comma(after(ts, at)) {
+        let (wider, m) = listed_part(alloc, bytes, left, after(ts, at), end, levels)?;
+        left = wider;
+        at += m;
+    }
+    Ok((left, at))
+}
+
+// A comma and the chain of joins behind it.
+#[cycle(read)]
+#[tactic(auto, unfolding(wt_grammar::specs::Reading::listed_part))]
+fn listed_part(
     alloc: Global,
     bytes: &[u8],
     left: FromPart,
@@ -526,32 +596,12 @@ fn join(
     levels: u32,
 ) -> Result<(FromPart, usize), QueryError>
     requires { 0 < length ts.now }
-    ensures exact { Gives from_tree result (spec.join end bytes.now (spec.nest end bytes.now levels) (from_tree left) ts.now) }
+    ensures exact { Gives from_tree result (spec.listed_part end bytes.now (spec.nest end bytes.now levels) (from_tree left) ts.now) }
     ensures within { IfOk result (λ x. (1 ≤ x.1) × (x.1 ≤ length ts.now)) }
 {
-    let (kind, n) = join_words(ts, end)?;
-    let rest = after(ts, n);
-    let (right, m) = primary(alloc, bytes, rest, end, levels)?;
-    let rest = after(rest, m);
-    let on_at = place(rest, end);
-    let (_, f) = expect(at_on(rest), no_join(crate::front::kind(rest)), rest, end)?;
-    let (on, k) = cond(alloc, bytes, after(rest, f), end, levels)?;
-    let (left, right) = (Box::new(alloc, left)?, Box::new(alloc, right)?);
-    let part = match kind {
-        JoinKind::Inner => FromPart::Inner {
-            left,
-            right,
-            on,
-            on_at,
-        },
-        JoinKind::Left => FromPart::Left {
-            left,
-            right,
-            on,
-            on_at,
-        },
-    };
-    Ok((part, n + m + f + k))
+    let comma_at = place(ts, end);
+    let (right, n) = joined(alloc, bytes, false, after(ts, 1), end, levels)?;
+    Ok((listed_from(alloc, left, right, comma_at)?, n + 1))
 }
 
 /// The query that the tokens of a statement are.

@@ -3,17 +3,20 @@ ghost use Rattle.std.specs.Prelude.{◌≡◌, ◌<◌, ◌≤◌, ◌-◌, ◌+
 ghost use Rattle.std.specs.List.{All};
 ghost use Rattle.wt_grammar.specs.Statements as spec;
 ghost use Rattle.wt_ast.specs.Tree.{query_tree};
-ghost use Rattle.wt_ast.specs.Places.{first, misplaced};
-ghost use Rattle.wt_parse.specs.Held.{kept, shown, Holds, NoOdd, Reads, Answers};
+ghost use Rattle.wt_ast.specs.Lawful.{IsLawful};
+ghost use Rattle.wt_ast.specs.Marks.{marks, places, same};
+ghost use Rattle.wt_parse.specs.Held.{kept, shown, Holds, NoOdd, Bars};
+ghost use Rattle.wt_parse.specs.Outcomes.{Reads, Answers};
 
-use crate::error::QueryError;
-use crate::lexemes::lexemes;
 use crate::queries::statement;
 use std::alloc::Global;
 use std::marker::Model;
-use wt_ast::{Counted, Query};
-use wt_grammar::{Lexeme, QueryFault};
+use wt_ast::{Mark, Marked, Query};
+use wt_front::QueryError;
+use wt_front::lexemes::lexemes;
+use wt_grammar::QueryFault;
 use wt_lex::{LexError, Sym, Token, TokenKind, Tokens, lex};
+use wt_reading::Lexeme;
 use wt_value::WantOfMemory;
 
 /// The greatest length of a statement, in bytes.
@@ -36,16 +39,17 @@ pub struct Queries<'a> {
 }
 
 impl<'a> Model for Queries<'a> {
-    ghost use Rattle.std.specs.Prelude.{map};
+    ghost use Rattle.std.specs.Prelude.{◌≡◌, map, Ok};
     ghost use Rattle.std.specs.List.{All};
-    ghost use Rattle.wt_grammar.specs.Statements.{File};
+    ghost use Rattle.wt_grammar.specs.Statements.{File, file_of};
     ghost use Rattle.wt_parse.specs.Held.{shown, Holds};
 
     ghost Value = { File };
 
     ghost view = { λ q. record { bytes = q.bytes.now; statements = map (shown q.tokens) q.pieces.items } };
 
-    ghost invariant = { λ q. All (Holds q.tokens) q.pieces.items };
+    ghost invariant = { λ q. All (Holds q.tokens) q.pieces.items
+        × (file_of q.bytes.now ≡ Ok (record { bytes = q.bytes.now; statements = map (shown q.tokens) q.pieces.items })) };
 }
 
 fn is_semicolon(kind: TokenKind) -> bool
@@ -128,9 +132,10 @@ impl<'a> Queries<'a> {
         begin_of(&self.tokens, self.pieces[n as usize])
     }
 
-    /// The query that the n-th statement is, from 0, or its first refusal.
+    /// The query that the n-th statement is, from 0, or its first refusal. Its tree is a lawful one.
     pub fn get(&self, alloc: Global, n: u32) -> Result<Query, QueryError>
         requires { n < length self.now.statements }
+        ensures lawful { IfOk result (λ q. IsLawful (query_tree q)) }
         ensures exact { (s : spec.Statement) → slice_get self.now.statements n ≡ Some s → Answers result (spec.answer self.now.bytes s) }
     {
         let piece = self.pieces[n as usize];
@@ -160,28 +165,70 @@ fn earlier(one: Option<u32>, other: Option<u32>) -> Option<u32>
     }
 }
 
-// Where the query has too many parts.
-fn crowded(alloc: Global, query: &Query) -> Result<Option<u32>, WantOfMemory>
-    ensures { IfOk result (λ at. at ≡ spec.crowded (query_tree query.now)) }
+fn is_same(one: Marked, other: Marked) -> bool
+    ensures { result ≡ same one other }
 {
-    let items = query.places(alloc, Counted::FromItems)?;
-    let conjuncts = query.places(alloc, Counted::Conjuncts)?;
-    Ok(earlier(
-        items.as_slice().get(256).copied(),
-        conjuncts.as_slice().get(256).copied(),
-    ))
+    matches!(
+        (one, other),
+        (Marked::FromItem, Marked::FromItem)
+            | (Marked::Conjunct, Marked::Conjunct)
+            | (Marked::HiddenIn, Marked::HiddenIn)
+    )
 }
 
-// A query that was read, unless a query in it stands below Or or Not, or it has too many parts.
-fn limited(alloc: Global, query: Query) -> Result<Query, QueryError>
-    ensures { Answers result (spec.placed (first (misplaced (query_tree query))) (query_tree query)) }
+// Where the n-th mark of a kind stands, from 0, if there are so many.
+fn nth_place(marks: &[Mark], what: Marked, n: u32) -> Option<u32>
+    ensures { result ≡ slice_get (places what marks.now) n }
 {
-    if let Some(at) = query.misplaced() {
-        return Err(QueryError::Refused(QueryFault::InUnderOr, at));
+    let mut left = n;
+    let mut rest = marks;
+    'marks: while let [mark, others @ ..] = rest {
+        if is_same(mark.what, what) {
+            if left == 0 {
+                return Some(mark.at);
+            }
+            left -= 1;
+        }
+        rest = others;
     }
-    match crowded(alloc, &query)? {
-        Some(at) => Err(QueryError::Refused(QueryFault::TooMany, at)),
+    None
+}
+
+// Why a tree with these marks is refused: a query in it stands below Or or Not, or it has too many parts.
+fn barred(marks: &[Mark]) -> Option<(QueryFault, u32)>
+    ensures { result ≡ spec.barred marks.now }
+{
+    if let Some(at) = nth_place(marks, Marked::HiddenIn, 0) {
+        return Some((QueryFault::InUnderOr, at));
+    }
+    let items = nth_place(marks, Marked::FromItem, 256);
+    let conjuncts = nth_place(marks, Marked::Conjunct, 256);
+    match earlier(items, conjuncts) {
+        Some(at) => Some((QueryFault::TooMany, at)),
+        None => None,
+    }
+}
+
+// Why a query that was read is not given: it is barred, or memory ran out.
+fn limits(alloc: Global, query: &Query) -> Option<QueryError>
+    ensures { Bars result (spec.barred (marks (query_tree query.now))) }
+{
+    match query.marks(alloc) {
+        Err(_) => Some(QueryError::Memory),
+        Ok(marks) => match barred(marks.as_slice()) {
+            Some((fault, at)) => Some(QueryError::Refused(fault, at)),
+            None => None,
+        },
+    }
+}
+
+// A query that was read, unless it is barred.
+fn limited(alloc: Global, query: Query) -> Result<Query, QueryError>
+    ensures { Answers result (spec.unless (spec.barred (marks (query_tree query))) (query_tree query)) }
+{
+    match limits(alloc, &query) {
         None => Ok(query),
+        Some(error) => Err(error),
     }
 }
 
@@ -207,4 +254,11 @@ fn answer(alloc: Global, bytes: &[u8], tokens: &Tokens, piece: Piece) -> Result<
     no_odd(&ts)?;
     let (query, _) = statement(alloc, bytes, &ts, piece.end)?;
     limited(alloc, query)
+}
+
+fn may_be_shared<T: Send + Sync>() {}
+
+/// A statement to the compiler: threads may share the statements of a file, and hand them over.
+pub fn threads_share_queries() {
+    may_be_shared::<Queries>();
 }

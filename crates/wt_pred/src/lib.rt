@@ -6,8 +6,6 @@ mod eval;
 mod logic;
 mod nulls;
 mod renumber;
-#[cfg(test)]
-mod tests;
 mod tree;
 
 pub use tree::{Cmp, Operand, Pred, Preds};

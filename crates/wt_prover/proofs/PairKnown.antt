@@ -10,7 +10,7 @@ use Rattle.wt_symbol.specs.Sides.{SideTree, input, proj, filtered, inner_join, l
 use Rattle.wt_symbol.specs.Lawful.{IsLawful}
 use Rattle.wt_symbol.proofs.SymbolLemmas.{lawful_stands}
 use Rattle.wt_constraint.specs.declared.atom.Atom.{Atom}
-use Rattle.wt_constraint.specs.declared.atom.Atom.TheVariants.{Unique, NotNull}
+use Rattle.wt_constraint.specs.declared.atom.Atom.TheVariants.{Unique, NotNull, RefAttrs}
 use Rattle.wt_constraint.specs.declared.atom.Kind.{Kind}
 use Rattle.wt_constraint.specs.declared.atom.Kind.TheVariants.{Leaves, Lists, Preds}
 use Rattle.wt_constraint.specs.declared.set.AtomSet.{AtomSet}
@@ -19,7 +19,7 @@ use Rattle.wt_constraint.specs.Sameness.{AreSame}
 use Rattle.wt_form.specs.Known.{Known}
 use Rattle.wt_form.specs.FormOf.{form_of}
 use Rattle.wt_form.specs.Provable.{ProvableForms}
-use Rattle.wt_form.specs.Under.{Under, Holds, KeptBelow, SameLeaf, SameList, SamePred, kept_below, Provable}
+use Rattle.wt_form.specs.Under.{Under, Holds, Refers, KeptBelow, SameLeaf, SameList, SamePred, kept_below, Provable}
 use Rattle.wt_prover.specs.declared.sames.Sames.{Sames}
 use Rattle.wt_prover.specs.Sames.{same_class, known_with}
 use Rattle.wt_prover.specs.Towers.{Levels, tower_form}
@@ -79,7 +79,17 @@ not_not_null Leaves v w c e = cc
 not_not_null Lists v w c e = cc
 not_not_null Preds v w c e = cc
 
+not_reference : (kind : Kind) (v w a b : ℕ) → RefAttrs a b ≡ equal kind v w → ⊥
+not_reference Leaves v w a b e = cc
+not_reference Lists v w a b e = cc
+not_reference Preds v w a b e = cc
+
 module _ (p : PairTree) (set : AtomSet) (tower : IsTower p.source) where
+  nothing_refers : (r a s b : ℕ) → Refers p set r a s b → ⊥
+  nothing_refers r a s b h =
+      let q = each_get Equates (atoms_of_pair p) h.asked.number (RefAttrs h.from h.to) (each_atom p.source tower) h.asked.atom in
+      not_reference q.0 q.1 q.2 h.from h.to q.3
+
   nothing_unique : (r a : ℕ) → Holds p set Unique r a → ⊥
   nothing_unique r a h =
       let q = each_get Equates (atoms_of_pair p) h.asked.number (Unique h.list) (each_atom p.source tower) h.asked.atom in
@@ -128,6 +138,7 @@ module _ (p : PairTree) (set : AtomSet) (tower : IsTower p.source) where
       pred = preds;
       unique = λ r a. (λ t. absurd (false≢true t), λ h. absurd (nothing_unique r a h));
       not_null = λ r a. (λ t. absurd (false≢true t), λ h. absurd (nothing_not_null r a h));
+      refs = λ r a s b. (λ t. absurd (false≢true t), λ h. absurd (nothing_refers r a s b h));
       within = λ a b. (within_to a b, within_from a b);
     }
 
@@ -145,6 +156,7 @@ module _ (p : PairTree) (set : AtomSet) (tower : IsTower p.source) where
         let pred : (x y : ℕ) → K.pred x y ≡ same_class sames.preds x y = λ x y. same_tests _ _ (λ t. (preds x y).1 ((under.pred x y).0 t)) (λ t. (under.pred x y).1 ((preds x y).0 t)) in
         let unique : (r a : ℕ) → K.unique r a ≡ false = λ r a. same_tests _ _ (λ t. absurd (nothing_unique r a ((under.unique r a).0 t))) (λ t. absurd (false≢true t)) in
         let not_null : (r a : ℕ) → K.not_null r a ≡ false = λ r a. same_tests _ _ (λ t. absurd (nothing_not_null r a ((under.not_null r a).0 t))) (λ t. absurd (false≢true t)) in
+        let refs : (r a s b : ℕ) → K.refs r a s b ≡ false = λ r a s b. same_tests _ _ (λ t. absurd (nothing_refers r a s b ((under.refs r a s b).0 t))) (λ t. absurd (false≢true t)) in
         let within : (a b : ℕ) → K.within a b ≡ within_of a b = λ a b. same_tests _ _ (λ t. within_from a b ((under.within a b).0 t)) (λ t. (under.within a b).1 (within_to a b t)) in
         λ i. record {
           rel = λ r s. rel r s i;
@@ -152,6 +164,7 @@ module _ (p : PairTree) (set : AtomSet) (tower : IsTower p.source) where
           pred = λ x y. pred x y i;
           unique = λ r a. unique r a i;
           not_null = λ r a. not_null r a i;
+          refs = λ r a s b. refs r a s b i;
           within = λ a b. within a b i;
         }
 

@@ -5,7 +5,7 @@ use Rattle.wt_bag.specs.Choices.{At, drop_at, PairsBy}
 use Rattle.wt_bag.proofs.PairsByLaws.{IsEquivalent, both_alike_pairs}
 use Rattle.wt_prover.proofs.ClassLaws.{class_law}
 use Rattle.wt_symbol.specs.declared.head.PartCols.TheVariants.{Whole}
-use Rattle.wt_form.specs.declared.Expr.TheVariants.{Of}
+use Rattle.wt_form.specs.declared.form.Expr.TheVariants.{Of}
 use Rattle.wt_form.specs.Trees.{Terms, no_ranges, range_then, FormRange, Rel, distinct_of}
 use Rattle.wt_form.specs.Parts.{one_term, conds_list, ranges_list, terms_count, ranges_at, conds_at}
 use Rattle.wt_form.specs.Known.{Known, heads_same}

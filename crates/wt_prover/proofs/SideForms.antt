@@ -6,8 +6,8 @@ use Rattle.wt_symbol.specs.declared.head.PartCols.TheVariants.{Whole, List as Li
 use Rattle.wt_symbol.specs.Sides.{SideTree, input, proj, filtered, inner_join, left_join, in_sub, dedup}
 use Rattle.wt_symbol.specs.Lawful.{occurs, visible_leaves, sees, stands}
 use Rattle.wt_symbol.specs.Heads.{anchor, head_of}
-use Rattle.wt_form.specs.declared.Expr.{Expr}
-use Rattle.wt_form.specs.declared.Expr.TheVariants.{Of, Null as NullOf}
+use Rattle.wt_form.specs.declared.form.Expr.{Expr}
+use Rattle.wt_form.specs.declared.form.Expr.TheVariants.{Of, Null as NullOf}
 use Rattle.wt_form.specs.Trees.{Terms, no_ranges, range_then, distinct_of, no_conds, Cond, Pred, Form}
 use Rattle.wt_form.specs.Parts.{one_term, with_cond}
 use Rattle.wt_form.specs.FormOf.{each_term, cond_term, list_of, list_expr, side_terms, part_pieces, form_of}

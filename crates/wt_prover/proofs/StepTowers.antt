@@ -5,14 +5,18 @@ use Rattle.wt_bag.specs.Choices.{At, Has}
 use Rattle.wt_bag.proofs.HasLaws.{has_left, has_right, has_split, has_map, has_from_map}
 use Rattle.wt_symbol.specs.declared.head.Part.{Part}
 use Rattle.wt_symbol.specs.declared.head.PartCols.TheVariants.{Whole, List as Listed}
-use Rattle.wt_form.specs.declared.Expr.{Expr}
-use Rattle.wt_form.specs.declared.Expr.TheVariants.{Of}
+use Rattle.wt_form.specs.declared.form.Expr.{Expr}
+use Rattle.wt_form.specs.declared.form.Expr.TheVariants.{Of}
 use Rattle.wt_form.specs.Trees.{Terms, no_terms, term_then, Ranges, no_ranges, range_then, FormRange, Rel, distinct_of, Conds, no_conds, cond_then, Cond, Pred, Join, is_in, not_in}
 use Rattle.wt_form.specs.Parts.{one_term, terms_append, ranges_append, conds_append, ranges_count, conds_list, conds_up, expr_up}
 use Rattle.wt_form.specs.Known.{Known}
 use Rattle.wt_form.specs.Congruent.{CondSame}
-use Rattle.wt_form.specs.Facts.{Determined, by_whole_row, by_columns, by_join, by_parts}
-use Rattle.wt_form.specs.Steps.{Opening, CondsOpened, CondOpened, PiecesOpened, Repeated, Opened, AllDetermined, Row, by_repeated, by_opened, TermsStep, at_term, later_term, in_range, in_cond, RangesStep, at_range, later_range, CondsStep, at_in, at_not_in, later_cond}
+use Rattle.wt_form.specs.Facts.{Joins, Determined, by_whole_row, by_columns, by_join, by_parts}
+use Rattle.wt_form.specs.Drops.{Repeated, ComparesNull}
+use Rattle.wt_form.specs.Opening.{Opening, CondsOpened, CondOpened, PiecesOpened, Opened, AllDetermined}
+use Rattle.wt_form.specs.Places.{CondAt}
+use Rattle.wt_form.specs.Joining.{JoinedTogether}
+use Rattle.wt_form.specs.Steps.{Row, by_repeated, by_opened, TermsStep, at_term, later_term, in_range, in_cond, RangesStep, at_range, later_range, CondsStep, at_in, at_not_in, later_cond, at_two, by_self_join, by_in_true, by_join_to_in, by_merged, by_not_in_false, by_null_compared, by_not_in_of_null, by_rewritten, PairRow}
 use Rattle.wt_prover.specs.declared.tower.Test.{Test}
 use Rattle.wt_prover.specs.Towers.{Levels, table, over, terms_of, leaf_of, whole, test_cond, tests_conds}
 use Rattle.wt_prover.specs.TowerSteps.{drops, open_under, is_over, tower_steps}
@@ -228,31 +232,31 @@ module _ (K : Known) (none : (r a : ℕ) → K.unique r a ≡ false) where
       last true (inr j) = absurd j
       last false j = absurd j
 
-  opening_step : (nested : Bool) (t : Levels) (xs : List Test) → Opened K nested (range_then (leaf_range t) no_ranges) (tests_conds xs) row_piece (terms_of (open_under t xs)) → TermsStep (Row K) nested (terms_of (over t xs)) (terms_of (open_under t xs))
+  opening_step : (nested : Bool) (t : Levels) (xs : List Test) → Opened K nested (range_then (leaf_range t) no_ranges) (tests_conds xs) row_piece (terms_of (open_under t xs)) → TermsStep (Row K) (PairRow K) nested (terms_of (over t xs)) (terms_of (open_under t xs))
   opening_step nested (table r ys) xs h = at_term (by_opened h)
   opening_step nested (over t ys) xs h = at_term (by_opened h)
 
   -- each step of a tower is one of its form
-  pub steps_from : (nested : Bool) (t v : Levels) → Has v (tower_steps K nested t) → TermsStep (Row K) nested (terms_of t) (terms_of v)
+  pub steps_from : (nested : Bool) (t v : Levels) → Has v (tower_steps K nested t) → TermsStep (Row K) (PairRow K) nested (terms_of t) (terms_of v)
   steps_from nested (table r xs) v h =
       let p = has_from_map v (table r) (drops K xs) h in
-      subst (λ w. TermsStep (Row K) nested (terms_of (table r xs)) (terms_of w)) (sym p.2) (at_term (by_repeated (repeated_from (Rel r) xs p.0 p.1)))
+      subst (λ w. TermsStep (Row K) (PairRow K) nested (terms_of (table r xs)) (terms_of w)) (sym p.2) (at_term (by_repeated (repeated_from (Rel r) xs p.0 p.1)))
   steps_from nested (over t xs) v h =
       elim (has_split v (map (over t) (drops K xs) ++ map (λ u. over u xs) (tower_steps K true t)) (cond (nested || is_over t) (open_under t xs ∷ []) []) h) [
         | inr j ↦ last (nested || is_over t) refl j
         | inl k ↦ elim (has_split v (map (over t) (drops K xs)) (map (λ u. over u xs) (tower_steps K true t)) k) [
           | inl j ↦ let p = has_from_map v (over t) (drops K xs) j in
-              subst (λ w. TermsStep (Row K) nested (terms_of (over t xs)) (terms_of w)) (sym p.2) (at_term (by_repeated (repeated_from (leaf_range t) xs p.0 p.1)))
+              subst (λ w. TermsStep (Row K) (PairRow K) nested (terms_of (over t xs)) (terms_of w)) (sym p.2) (at_term (by_repeated (repeated_from (leaf_range t) xs p.0 p.1)))
           | inr j ↦ let p = has_from_map v (λ u. over u xs) (tower_steps K true t) j in
-              subst (λ w. TermsStep (Row K) nested (terms_of (over t xs)) (terms_of w)) (sym p.2) (inside p.0 (leaf_kept true t p.0 p.1) (steps_from true t p.0 p.1))
+              subst (λ w. TermsStep (Row K) (PairRow K) nested (terms_of (over t xs)) (terms_of w)) (sym p.2) (inside p.0 (leaf_kept true t p.0 p.1) (steps_from true t p.0 p.1))
         ]
       ]
     where
-      inside : (u : Levels) → leaf_of u ≡ leaf_of t → TermsStep (Row K) true (terms_of t) (terms_of u) → TermsStep (Row K) nested (terms_of (over t xs)) (terms_of (over u xs))
-      inside u e s = subst (λ r. TermsStep (Row K) nested (terms_of (over t xs)) (one_term (range_then (distinct_of (whole r) (terms_of u)) no_ranges) (tests_conds xs) row_piece)) (sym e) (in_range (at_range s))
+      inside : (u : Levels) → leaf_of u ≡ leaf_of t → TermsStep (Row K) (PairRow K) true (terms_of t) (terms_of u) → TermsStep (Row K) (PairRow K) nested (terms_of (over t xs)) (terms_of (over u xs))
+      inside u e s = subst (λ r. TermsStep (Row K) (PairRow K) nested (terms_of (over t xs)) (one_term (range_then (distinct_of (whole r) (terms_of u)) no_ranges) (tests_conds xs) row_piece)) (sym e) (in_range (at_range s))
 
-      last : (b : Bool) → (nested || is_over t) ≡ b → Has v (cond b (open_under t xs ∷ []) []) → TermsStep (Row K) nested (terms_of (over t xs)) (terms_of v)
-      last true o (inl e) = subst (λ w. TermsStep (Row K) nested (terms_of (over t xs)) (terms_of w)) (sym e) (opening_step nested t xs (opened_from nested t xs o))
+      last : (b : Bool) → (nested || is_over t) ≡ b → Has v (cond b (open_under t xs ∷ []) []) → TermsStep (Row K) (PairRow K) nested (terms_of (over t xs)) (terms_of v)
+      last true o (inl e) = subst (λ w. TermsStep (Row K) (PairRow K) nested (terms_of (over t xs)) (terms_of w)) (sym e) (opening_step nested t xs (opened_from nested t xs o))
       last true o (inr j) = absurd j
       last false o j = absurd j
 
@@ -279,7 +283,56 @@ module _ (K : Known) (none : (r a : ℕ) → K.unique r a ≡ false) where
     is = e;
   }
 
+  -- among tests there is no Join, In or NotIn
+  abbrev pub is_test : Cond → Type 0
+  is_test (Pred p x) = Unit {0}
+  is_test (Join x y) = ⊥
+  is_test (is_in x h ts) = ⊥
+  is_test (not_in x h ts) = ⊥
+
+  has_test : (xs : List Test) (c : Cond) → Has c (conds_list (tests_conds xs)) → is_test c
+  has_test [] c h = absurd h
+  has_test (x ∷ xs) c (inl e) = subst is_test (sym e) tt
+  has_test (x ∷ xs) c (inr h) = has_test xs c h
+
+  at_test : (xs : List Test) (c : Cond) → CondAt (tests_conds xs) c → is_test c
+  at_test xs c p = go p.before xs p.is
+    where
+      go : (before : Conds) (xs : List Test) → tests_conds xs ≡ conds_append before (cond_then c p.after) → is_test c
+      go no_conds [] e = cc
+      go no_conds (x ∷ xs) e = let is : test_cond x ≡ c = cc in subst is_test is tt
+      go (cond_then d ds) [] e = cc
+      go (cond_then d ds) (x ∷ xs) e = let rest : tests_conds xs ≡ conds_append ds (cond_then c p.after) = cc in go ds xs rest
+
+  joins_test : (e e' : Expr) (c : Cond) → Joins e e' c → is_test c → ⊥
+  joins_test e e' (Pred p x) j t = j
+  joins_test e e' (Join x y) j t = t
+  joins_test e e' (is_in x h ts) j t = t
+  joins_test e e' (not_in x h ts) j t = t
+
+  compares_test : (c : Cond) → ComparesNull c → is_test c → ⊥
+  compares_test (Pred p x) n t = n
+  compares_test (Join x y) n t = t
+  compares_test (is_in x h ts) n t = t
+  compares_test (not_in x h ts) n t = t
+
+  no_joined : (rs : Ranges) (xs : List Test) (a x y : ℕ) → JoinedTogether K rs (tests_conds xs) a x y → ⊥
+  no_joined rs xs a x y (b, c, p, q, inl j) = joins_test (Of x 0 (Listed b)) (Of y 0 (Listed c)) j.0 j.2 (has_test xs j.0 j.1)
+  no_joined rs xs a x y (b, c, p, q, inr j) = joins_test (Of x 0 (Listed b)) j.2 j.0 j.6 (has_test xs j.0 j.4)
+
+  no_two : (between after : Terms) (rs : Ranges) (cs : Conds) (ps : List Expr) → terms_append between (term_then rs cs ps after) ≡ no_terms → ⊥
+  no_two no_terms after rs cs ps e = cc
+  no_two (term_then rs' cs' ps' ts) after rs cs ps e = cc
+
   row_to : (nested : Bool) (t : Levels) (us : Terms) → Row K nested (range_then (range_of t) no_ranges) (tests_conds (tests_of t)) row_piece us → Found nested t us
+  row_to nested t us (by_self_join h) = absurd (at_test (tests_of t) (Join h.x h.y) h.place)
+  row_to nested t us (by_in_true h) = absurd (at_test (tests_of t) (is_in h.e h.h h.ts) h.place)
+  row_to nested t us (by_join_to_in h) = absurd (joins_test _ _ h.join h.joins (at_test (tests_of t) h.join h.place))
+  row_to nested t us (by_merged h) = absurd (no_joined (range_then (range_of t) no_ranges) (tests_of t) h.a h.x (ranges_count h.at.before) h.joined)
+  row_to nested t us (by_not_in_false h) = absurd (at_test (tests_of t) (not_in h.e h.h h.ts) h.place)
+  row_to nested t us (by_null_compared h) = absurd (compares_test h.c h.null (has_test (tests_of t) h.c h.there))
+  row_to nested t us (by_not_in_of_null h) = absurd (at_test (tests_of t) (not_in h.e h.h h.ts) h.place)
+  row_to nested t us (by_rewritten h) = absurd (joins_test h.e h.e' h.join h.joins (at_test (tests_of t) h.join h.place))
   row_to nested t us (by_repeated h) = let r = repeated_to (range_of t) (tests_of t) us h in found_dropped nested t us r.0 r.1 r.2
   row_to nested (table r xs) us (by_opened h) =
       let p = ranges_one (Rel r) h.before (distinct_of h.head (one_term h.inner h.conds h.pieces)) h.after h.is in
@@ -291,21 +344,22 @@ module _ (K : Known) (none : (r a : ℕ) → K.unique r a ≡ false) where
   append_none (term_then rs cs ps ts) = ap (term_then rs cs ps) (append_none ts)
 
   -- nothing stands in no ranges, in no terms, or in tests
-  no_step_in_ranges : (rs rs' : Ranges) → RangesStep (Row K) rs rs' → rs ≡ no_ranges → ⊥
+  no_step_in_ranges : (rs rs' : Ranges) → RangesStep (Row K) (PairRow K) rs rs' → rs ≡ no_ranges → ⊥
   no_step_in_ranges rs rs' (at_range {h = h} {ts = ts} {rs = rest} s) e = cc
   no_step_in_ranges rs rs' (later_range {r = r} {rs = rest} s) e = cc
 
-  no_step_in_relation : (r : ℕ) (rs rs' : Ranges) → RangesStep (Row K) rs rs' → rs ≡ range_then (Rel r) no_ranges → ⊥
+  no_step_in_relation : (r : ℕ) (rs rs' : Ranges) → RangesStep (Row K) (PairRow K) rs rs' → rs ≡ range_then (Rel r) no_ranges → ⊥
   no_step_in_relation r rs rs' (at_range {h = h} {ts = ts} {rs = rest} s) e = let bad : distinct_of h ts ≡ Rel r = cc in cc
   no_step_in_relation r rs rs' (later_range {r = q} {rs = rest} {rs' = rest'} s) e = let rest_is : rest ≡ no_ranges = cc in no_step_in_ranges rest rest' s rest_is
 
-  no_step_in_terms : (nested : Bool) (ts us : Terms) → TermsStep (Row K) nested ts us → ts ≡ no_terms → ⊥
+  no_step_in_terms : (nested : Bool) (ts us : Terms) → TermsStep (Row K) (PairRow K) nested ts us → ts ≡ no_terms → ⊥
   no_step_in_terms nested ts us (at_term {rs = rs} {cs = cs} {ps = ps} {ts = rest} s) e = cc
+  no_step_in_terms nested ts us (at_two {rs = rs} {cs = cs} {ps = ps} rs' cs' ps' between after vs s) e = cc
   no_step_in_terms nested ts us (later_term {rs = rs} {cs = cs} {ps = ps} {ts = rest} s) e = cc
   no_step_in_terms nested ts us (in_range {rs = rs} {cs = cs} {ps = ps} {ts = rest} s) e = cc
   no_step_in_terms nested ts us (in_cond {rs = rs} {cs = cs} {ps = ps} {ts = rest} s) e = cc
 
-  no_step_in_tests : (cs ds : Conds) → CondsStep (Row K) cs ds → (xs : List Test) → cs ≡ tests_conds xs → ⊥
+  no_step_in_tests : (cs ds : Conds) → CondsStep (Row K) (PairRow K) cs ds → (xs : List Test) → cs ≡ tests_conds xs → ⊥
   no_step_in_tests cs ds (at_in {x = x} {h = h} {ts = ts} {cs = rest} s) [] e = cc
   no_step_in_tests cs ds (at_in {x = x} {h = h} {ts = ts} {cs = rest} s) (y ∷ ys) e = let bad : is_in x h ts ≡ test_cond y = cc in cc
   no_step_in_tests cs ds (at_not_in {x = x} {h = h} {ts = ts} {cs = rest} s) [] e = cc
@@ -315,7 +369,7 @@ module _ (K : Known) (none : (r a : ℕ) → K.unique r a ≡ false) where
 
   mutual
     -- each step of a tower's form is one of the tower
-    pub steps_to : (nested : Bool) (ts us : Terms) → TermsStep (Row K) nested ts us → (t : Levels) → ts ≡ terms_of t → Found nested t us
+    pub steps_to : (nested : Bool) (ts us : Terms) → TermsStep (Row K) (PairRow K) nested ts us → (t : Levels) → ts ≡ terms_of t → Found nested t us
     steps_to nested ts us (at_term {rs = rs} {cs = cs} {ps = ps} {us = vs} {ts = rest} s) t e =
         let p = term_parts rs (range_then (range_of t) no_ranges) cs (tests_conds (tests_of t)) ps row_piece rest no_terms (e ∙ terms_are t) in
         let row : Row K nested (range_then (range_of t) no_ranges) (tests_conds (tests_of t)) row_piece vs =
@@ -323,6 +377,9 @@ module _ (K : Known) (none : (r a : ℕ) → K.unique r a ≡ false) where
         (subst (λ c. Row K nested (range_then (range_of t) no_ranges) c ps vs) p.1 (subst (λ r. Row K nested r cs ps vs) p.0 s)) in
         let f = row_to nested t vs row in
         record { tower = f.tower; has = f.has; is = ap (terms_append vs) p.3 ∙ append_none vs ∙ f.is }
+    steps_to nested ts us (at_two {rs = rs} {cs = cs} {ps = ps} rs' cs' ps' between after vs s) t e =
+        let p = term_parts rs (range_then (range_of t) no_ranges) cs (tests_conds (tests_of t)) ps row_piece (terms_append between (term_then rs' cs' ps' after)) no_terms (e ∙ terms_are t) in
+        absurd (no_two between after rs' cs' ps' p.3)
     steps_to nested ts us (later_term {rs = rs} {cs = cs} {ps = ps} {ts = rest} {us = us'} s) t e =
         let p = term_parts rs (range_then (range_of t) no_ranges) cs (tests_conds (tests_of t)) ps row_piece rest no_terms (e ∙ terms_are t) in
         absurd (no_step_in_terms nested rest us' s p.3)
@@ -342,7 +399,7 @@ module _ (K : Known) (none : (r a : ℕ) → K.unique r a ≡ false) where
         let p = term_parts rs (range_then (range_of t) no_ranges) cs (tests_conds (tests_of t)) ps row_piece rest no_terms (e ∙ terms_are t) in
         absurd (no_step_in_tests cs cs' s (tests_of t) p.1)
 
-    ranges_to : (rs rs' : Ranges) → RangesStep (Row K) rs rs' → (t : Levels) → rs ≡ range_then (leaf_range t) no_ranges → (v : Levels) × Has v (tower_steps K true t) × (rs' ≡ range_then (leaf_range v) no_ranges)
+    ranges_to : (rs rs' : Ranges) → RangesStep (Row K) (PairRow K) rs rs' → (t : Levels) → rs ≡ range_then (leaf_range t) no_ranges → (v : Levels) × Has v (tower_steps K true t) × (rs' ≡ range_then (leaf_range v) no_ranges)
     ranges_to rs rs' (at_range {h = h} {ts = ts} {us = us} {rs = rest} s) t e =
         let first : distinct_of h ts ≡ leaf_range t = cc in
         let rest_is : rest ≡ no_ranges = cc in

@@ -19,6 +19,7 @@ known_with sames within = record {
   pred = same_class sames.preds;
   unique = λ r a. false;
   not_null = λ r a. false;
+  refs = λ r a s b. false;
   within = within;
 }
 

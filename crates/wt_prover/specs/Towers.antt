@@ -4,7 +4,7 @@ use Rattle.std.specs.List.{list_all}
 use Rattle.wt_bag.specs.Bags.{count_of}
 use Rattle.wt_symbol.specs.declared.head.Part.{Part}
 use Rattle.wt_symbol.specs.declared.head.PartCols.TheVariants.{Whole, List as Listed}
-use Rattle.wt_form.specs.declared.Expr.TheVariants.{Of}
+use Rattle.wt_form.specs.declared.form.Expr.TheVariants.{Of}
 use Rattle.wt_form.specs.Trees.{Terms, no_ranges, range_then, Rel, distinct_of, Conds, no_conds, cond_then, Cond, Pred, Form}
 use Rattle.wt_form.specs.Parts.{one_term}
 use Rattle.wt_form.specs.Known.{Known}

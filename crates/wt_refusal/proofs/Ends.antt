@@ -3,10 +3,12 @@ use Rattle.std.proofs.Common.{◌≡◌, ℕ, ◌+◌, ◌-◌, ◌≤◌, ◌�
 use Rattle.std.specs.Prelude.{if◌then◌else◌}
 use Rattle.wt_ast.specs.Tree.{QueryTree}
 use Rattle.wt_grammar.specs.declared.fault.QueryFault.TheVariants as fault
-use Rattle.wt_grammar.specs.Lexemes.{Tokens, kind, is_select, is_end}
+use Rattle.wt_reading.specs.Lexemes.{Tokens, kind, is_end}
+use Rattle.wt_grammar.specs.Kinds.{is_select}
 use Rattle.wt_grammar.specs.Refusals.{no_statement}
 use Rattle.wt_grammar.specs.Reading as read
-use Rattle.wt_grammar.specs.Reading.{Read, Refusal, refused, odd, plus, followed, no_query_end}
+use Rattle.wt_reading.specs.Readings.{plus, followed}
+use Rattle.wt_grammar.specs.Reading.{Read, Refusal, refused, odd, no_query_end}
 use Rattle.wt_sentence.proofs.Complete.{statement_with, complete_with}
 use Rattle.wt_viable.specs.Sentences.{IsSentence, Parts}
 use Rattle.wt_refusal.specs.Refused.{looked, Speaks, Ends}

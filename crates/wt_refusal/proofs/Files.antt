@@ -1,5 +1,5 @@
 -- The statement of a file that is refused by its grammar.
-use Rattle.std.proofs.Common.{◌≡◌, ℕ, zero, suc, Bool, true, false, List, [], ◌∷◌, map, refl, ap, sym, subst, Ok, Err, Option, Some, None}
+use Rattle.std.proofs.Common.{◌≡◌, ℕ, zero, suc, Bool, true, false, List, [], ◌∷◌, map, refl, ap, sym, ◌∙◌, subst, Ok, Err, Option, Some, None}
 use Rattle.std.specs.Prelude.{if◌then◌else◌, length, slice_get, Result}
 use Rattle.wt_bag.specs.Bags.{Each}
 use Rattle.wt_lex.specs.declared.token.Token.{Token}
@@ -8,12 +8,12 @@ use Rattle.wt_lex.specs.Sound.{InOrder}
 use Rattle.wt_lex.specs.Tokens.{lexed}
 use Rattle.wt_lex.proofs.Lexing.{tokens_in_order}
 use Rattle.wt_ast.specs.Tree.{QueryTree}
-use Rattle.wt_ast.specs.Places.{misplaced, first}
+use Rattle.wt_ast.specs.Marks.{marks}
 use Rattle.wt_grammar.specs.declared.fault.QueryFault.{QueryFault}
 use Rattle.wt_grammar.specs.declared.fault.QueryFault.TheVariants as fault
-use Rattle.wt_grammar.specs.Words.{lexeme}
+use Rattle.wt_reading.specs.Lexemes.{lexeme}
 use Rattle.wt_grammar.specs.Reading.{Read, Refusal, refused, odd, statement}
-use Rattle.wt_grammar.specs.Statements.{Statement, File, Answer, file_by, file_of, statements, is_too_long, lexical_or, first_odd, limited, placed, counted, crowded, answer, begin}
+use Rattle.wt_grammar.specs.Statements.{Statement, File, Answer, file_by, file_of, statements, is_too_long, lexical_or, first_odd, limited, barred, hidden_or, too_many, unless, answer, begin}
 use Rattle.wt_refusal.specs.Refused.{StandsAt, is_of_grammar}
 use Rattle.wt_refusal.proofs.Order.{IsOrdered, statements_in_order}
 use Rattle.wt_refusal.proofs.Stands.{refusal_stands}
@@ -46,16 +46,25 @@ same_kind f g a b e h =
     subst (λ k. is_of_grammar k ≡ true) (sym same) h
 
 module _ (f : QueryFault) (at : ℕ) (grammar : is_of_grammar f ≡ true) where
-  counted_never : (o : Option ℕ) (q : QueryTree) → counted o q ≡ Err (refused f, at) → ⊥
-  counted_never None q e = cc
-  counted_never (Some n) q e = let bad = same_kind fault.TooMany f n at e grammar in cc
+  barred_never : (o : Option (QueryFault × ℕ)) (q : QueryTree) → ((g : QueryFault) (n : ℕ) → o ≡ Some (g, n) → is_of_grammar g ≡ false) → unless o q ≡ Err (refused f, at) → ⊥
+  barred_never None q none e = cc
+  barred_never (Some x) q none e = let bad = sym (same_kind x.0 f x.1 at e grammar) ∙ none x.0 x.1 refl in cc
 
-  placed_never : (o : Option ℕ) (q : QueryTree) → placed o q ≡ Err (refused f, at) → ⊥
-  placed_never None q e = counted_never (crowded q) q e
-  placed_never (Some n) q e = let bad = same_kind fault.InUnderOr f n at e grammar in cc
+  crowded_kind : (c : Option ℕ) (g : QueryFault) (n : ℕ) → too_many c ≡ Some (g, n) → is_of_grammar g ≡ false
+  crowded_kind (Some m) g n e =
+      let pair : ◌≡◌ {A = QueryFault × ℕ} (fault.TooMany, m) (g, n) = cc in
+      ap (λ z. is_of_grammar z.0) (sym pair)
+  crowded_kind None g n e = absurd cc
+
+  -- what bars a tree is no refusal of the grammar
+  barred_kind : (h c : Option ℕ) (g : QueryFault) (n : ℕ) → hidden_or h (too_many c) ≡ Some (g, n) → is_of_grammar g ≡ false
+  barred_kind (Some m) c g n e =
+      let pair : ◌≡◌ {A = QueryFault × ℕ} (fault.InUnderOr, m) (g, n) = cc in
+      ap (λ z. is_of_grammar z.0) (sym pair)
+  barred_kind None c g n e = crowded_kind c g n e
 
   limited_inv : (r : Read QueryTree) → limited r ≡ Err (refused f, at) → r ≡ Err (refused f, at)
-  limited_inv (Ok x) e = absurd (placed_never (first (misplaced x.0)) x.0 e)
+  limited_inv (Ok x) e = absurd (barred_never (barred (marks x.0)) x.0 (barred_kind _ _) e)
   limited_inv (Err (why, n)) e =
       let same : ◌≡◌ {A = Refusal × ℕ} (why, n) (refused f, at) = cc in
       λ i. Err (same i)

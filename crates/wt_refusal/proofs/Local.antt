@@ -4,11 +4,12 @@ use Rattle.std.proofs.Common.{◌≡◌, ℕ, suc, ◌+◌, ◌≤◌, ◌<◌, 
 use Rattle.std.proofs.lemmas.List.{drop-take}
 use Rattle.std.specs.Prelude.{if◌then◌else◌, ◌||◌, not}
 use Rattle.wt_lex.specs.declared.token.Sym.TheVariants as sym
-use Rattle.wt_grammar.specs.declared.lexeme.Kind.{Kind}
-use Rattle.wt_grammar.specs.declared.lexeme.Kind.TheVariants.{Mark}
+use Rattle.wt_reading.specs.declared.lexeme.Kind.{Kind}
+use Rattle.wt_reading.specs.declared.lexeme.Kind.TheVariants.{Mark}
 use Rattle.wt_grammar.specs.declared.fault.QueryFault.TheVariants as fault
-use Rattle.wt_grammar.specs.Lexemes.{Tokens, kind, place}
-use Rattle.wt_grammar.specs.Reading.{Read, Refusal, refused, odd, plus, followed}
+use Rattle.wt_reading.specs.Lexemes.{Tokens, kind, place}
+use Rattle.wt_reading.specs.Readings.{plus, followed}
+use Rattle.wt_grammar.specs.Reading.{Read, Refusal, refused, odd}
 use Rattle.wt_refusal.specs.Refused.{looked, IsNoTuple}
 
 -- the first n tokens are the same, or both end before
@@ -77,8 +78,8 @@ refuses_followed deep ts (Err e) g h = h
 
 module _ (end : ℕ) (bytes : List ℕ) where
   no_tuple_left : (m k : ℕ) (ts behind : Tokens) → IsNoTuple end bytes (take k (drop m ts)) behind → IsNoTuple end bytes (take (m + k) ts) behind
-  no_tuple_left m k ts behind (a, t, b, c, e, opens, col, next) =
-      (take m ts ++ a, t, b, c, take-add m k ts ∙ ap (λ z. take m ts ++ z) e ∙ sym (append_assoc (take m ts) a (t ∷ b)), opens, col, next)
+  no_tuple_left m k ts behind (a, t, b, c, e, opens, col, next, none) =
+      (take m ts ++ a, t, b, c, take-add m k ts ∙ ap (λ z. take m ts ++ z) e ∙ sym (append_assoc (take m ts) a (t ∷ b)), opens, col, next, none)
 
   -- Of a refusal at the k-th token: whatever begins with the tokens that show it is refused, or it is where a parenthesis
   -- turns out to be no tuple. It shows no sooner than behind d tokens.

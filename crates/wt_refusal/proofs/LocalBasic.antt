@@ -7,16 +7,19 @@ use Rattle.std.specs.Prelude.{if◌then◌else◌, ◌&&◌, ◌||◌}
 use Rattle.wt_ast.specs.declared.tree.ColumnName.{ColumnName}
 use Rattle.wt_ast.specs.Tree.{CondTree, all_of, any_of}
 use Rattle.wt_grammar.specs.declared.fault.QueryFault.TheVariants as fault
-use Rattle.wt_grammar.specs.Lexemes.{Tokens, kind, place, is_and, is_or, is_not, is_select, is_in, is_open, is_close, is_comma}
+use Rattle.wt_reading.specs.Lexemes.{Tokens, kind, place, is_open, is_close, is_comma}
+use Rattle.wt_grammar.specs.Kinds.{is_and, is_or, is_not, is_select, is_in}
 use Rattle.wt_grammar.specs.Refusals.{syntax}
 use Rattle.wt_grammar.specs.Reading as read
-use Rattle.wt_grammar.specs.Reading.{Read, Refusal, Nest, refused, plus, followed, list, within, opens_tuple, in_follows}
-use Rattle.wt_sentence.specs.Grammar.{Column, Listed, Parens}
-use Rattle.wt_sentence.proofs.Inversions.{held, chosen, ok_parts, followed_ok}
-use Rattle.wt_sentence.proofs.Took.{list_sound, within_at, behind_front}
+use Rattle.wt_reading.specs.Readings.{plus, followed, list}
+use Rattle.wt_grammar.specs.Reading.{Read, Refusal, Nest, refused, refusal, opens_tuple, in_follows}
+use Rattle.wt_reading.specs.Sentences.{Listed, Parens}
+use Rattle.wt_sentence.specs.Grammar.{Column}
+use Rattle.wt_reading.proofs.Inversions.{held, chosen, ok_parts, followed_ok}
+use Rattle.wt_reading.proofs.Took.{list_sound, within_at, behind_front}
 use Rattle.wt_sentence.proofs.SoundParts.{column_sound}
 use Rattle.wt_sentence.proofs.Tuples.{tuple_opens}
-use Rattle.wt_refusal.specs.Refused.{looked}
+use Rattle.wt_refusal.specs.Refused.{NoTuple, looked}
 use Rattle.wt_refusal.proofs.Local.{Agree, agree_front, agree_less, agree_behind, kind_front, LocalAt, Local, Gives, too_deep, refuses, refuses_any, refusal_at, barred_at, less_at, deep_at, as_at, test_at, behind_at, then_at, same_value}
 use Rattle.wt_refusal.proofs.LocalParts.{run_local, by_place, column_local, operand_local}
 use Rattle.wt_refusal.proofs.LocalTuples.{Closes, ColumnCloses, tuple_column}
@@ -84,7 +87,7 @@ module _ (end : ℕ) (bytes : List ℕ) (ns : Nest) (below : LocalBelow end byte
   tuple_read us x n opens h =
       let (cs, m, k, e, r, s) = followed_ok us (read.listed end bytes ns (read.column end bytes) us) (λ cs rest. read.after_tuple end bytes ns (place end us) cs rest) x n h in
       let (room, e') = held ns.room _ _ cs m e in
-      let (a, b, f, l, p) = within_at (Listed (Column end bytes)) (list (read.column end bytes)) end (λ _. syntax) us cs m opens
+      let (a, b, f, l, p) = within_at (Listed (Column end bytes)) (list (read.column end bytes)) (λ _. refusal end syntax) us cs m opens
       (λ ys j g. list_sound (Column end bytes) (read.column end bytes) (column_sound end bytes) (drop 1 us) ys j g) e' in
       front cs a b f p (subst (λ z. is_in (kind z) ≡ true) (behind_front us a b m f l) (in_behind (place end us) cs (drop m us) x k r))
     where
@@ -214,7 +217,13 @@ module _ (end : ℕ) (bytes : List ℕ) (ns : Nest) (below : LocalBelow end byte
       let rest : drop m ts ≡ l = behind_front ts b l m f size in
       let front : take m ts ≡ b = (λ i. take (sym size i) (f i)) ∙ take-append_seam b l in
       subst (Gives end bytes 0 opened (t ∷ ts)) (sym (as_condition (t ∷ ts) s no_tuple ∙ column_refused room (t ∷ ts) (c, m, e, closes)))
-      (suc m, refl, inr (refl, ([], t, b, c, ap (λ z. t ∷ z) front, opens, col, closes)))
+      (suc m, refl, inr (refl, ([], t, b, c, ap (λ z. t ∷ z) front, opens, col, closes, none b l f rest)))
+    where
+      none : (b l : Tokens) → ts ≡ b ++ l → drop m ts ≡ l → NoTuple end bytes (t ∷ (b ++ drop m ts))
+      none b l f rest ks d r g p follows =
+          let whole : t ∷ ts ≡ d ++ r = ap (λ z. t ∷ z) (f ∙ ap (λ z. b ++ z) (sym rest)) ∙ g in
+          let z = sym (ap opens_tuple whole ∙ (tuple_opens end bytes ks d r p follows).2) ∙ no_tuple in
+          absurd cc
 
   -- another condition in parentheses
   condition_opened : ns.room ≡ true → (ts : Tokens) → is_open (kind ts) ≡ true → is_select (kind (drop 1 ts)) ≡ false → opens_tuple ts ≡ false → (ColumnCloses end bytes (drop 1 ts) → ⊥) → LocalAt end bytes 0 opened ts

@@ -6,12 +6,14 @@ use Rattle.wt_ast.specs.declared.tree.CmpWord.{CmpWord}
 use Rattle.wt_ast.specs.declared.tree.Scalar.{Scalar}
 use Rattle.wt_ast.specs.declared.tree.Scalar.TheVariants as scalar
 use Rattle.wt_ast.specs.Tree.{CondTree, compare, is_null, is_not_null, in_list, in_query, negated}
-use Rattle.wt_grammar.specs.declared.lexeme.Lexeme.{Lexeme}
+use Rattle.wt_reading.specs.declared.lexeme.Lexeme.{Lexeme}
 use Rattle.wt_grammar.specs.declared.fault.QueryFault.TheVariants as fault
-use Rattle.wt_grammar.specs.Lexemes.{Tokens, kind, place, is_and, is_not, is_select, is_between, is_is, is_in, is_null_word, is_open}
+use Rattle.wt_reading.specs.Lexemes.{Tokens, kind, place, is_open}
+use Rattle.wt_grammar.specs.Kinds.{is_and, is_not, is_select, is_between, is_is, is_in, is_null_word}
 use Rattle.wt_grammar.specs.Refusals.{syntax, no_negated}
 use Rattle.wt_grammar.specs.Reading as read
-use Rattle.wt_grammar.specs.Reading.{Read, Refusal, Nest, refused, plus, followed, list, within, expect, cmp_of, between_of, of_column, opens_tuple}
+use Rattle.wt_reading.specs.Readings.{plus, followed, list, within, expect}
+use Rattle.wt_grammar.specs.Reading.{Read, Refusal, Nest, refused, refusal, cmp_of, between_of, of_column, opens_tuple}
 use Rattle.wt_sentence.specs.Grammar.{Column}
 use Rattle.wt_sentence.proofs.Follows.{in_is}
 use Rattle.wt_refusal.proofs.Local.{Agree, agree_front, kind_front, LocalAt, Local, refusal_at, barred_at, less_at, as_at, seen_at, test_at, behind_at, next_at, then_at, last_at, refuses}
@@ -41,7 +43,7 @@ module _ (end : ℕ) (bytes : List ℕ) where
   unfolding read.between
   between_local at a word ts =
       then_at end bytes 0 (read.operand end bytes) _ ts (operand_local end bytes ts) (λ low m e.
-      then_at end bytes 0 (expect end is_and syntax) _ (drop m ts) (expect_local end bytes is_and syntax (drop m ts)) (λ u n f.
+      then_at end bytes 0 (expect (λ l. is_and (kind l)) (refusal end syntax)) _ (drop m ts) (expect_local end bytes is_and syntax (drop m ts)) (λ u n f.
       last_at end bytes 0 (read.operand end bytes) (λ high. between_of at a low high word) (drop n (drop m ts)) (operand_local end bytes (drop n (drop m ts)))))
 
   -- behind BETWEEN, which stands at the front
@@ -58,11 +60,11 @@ module _ (end : ℕ) (bytes : List ℕ) where
       (last_at end bytes 0 (read.operand end bytes) (λ b. compare at w a b (place end ts)) (drop 1 ts) (operand_local end bytes (drop 1 ts))))
 
   null_word : CondTree → Tokens → Read CondTree
-  null_word x us = followed us (expect end is_null_word syntax us) (λ _ rest. Ok (x, 0))
+  null_word x us = followed us (expect (λ l. is_null_word (kind l)) (refusal end syntax) us) (λ _ rest. Ok (x, 0))
 
   null_word_local : (x : CondTree) → Local end bytes 0 (null_word x)
   unfolding null_word
-  null_word_local x us = last_at end bytes 0 (expect end is_null_word syntax) (λ _. x) us (expect_local end bytes is_null_word syntax us)
+  null_word_local x us = last_at end bytes 0 (expect (λ l. is_null_word (kind l)) (refusal end syntax)) (λ _. x) us (expect_local end bytes is_null_word syntax us)
 
   is_part_local : (at : ℕ) (c : ColumnName) → Local end bytes 0 (read.is_part end at c)
   unfolding read.is_part null_word
@@ -82,7 +84,7 @@ module _ (end : ℕ) (bytes : List ℕ) where
         → LocalAt end bytes (1 + d) (read.listed end bytes ns part) ts
     unfolding read.listed
     listed_at d part ts room local first =
-        as_at end bytes (1 + d) (read.listed end bytes ns part) (within end (list part) (λ _. syntax)) ts (λ us a. rw room refl)
+        as_at end bytes (1 + d) (read.listed end bytes ns part) (within (list part) (λ _. refusal end syntax)) ts (λ us a. rw room refl)
         (closed_at end bytes d (list part) (λ _. syntax) ts (list_at end bytes d part local (drop 1 ts) first))
 
     pub none_listed : {A : Type 0} (part : Tokens → Read A) (ts : Tokens) → ns.room ≡ false → read.listed end bytes ns part ts ≡ Err (refused fault.TooDeep, place end ts)

@@ -10,16 +10,18 @@ use Rattle.wt_ast.specs.declared.tree.Item.{Item}
 use Rattle.wt_ast.specs.declared.tree.Item.TheVariants as items
 use Rattle.wt_ast.specs.declared.tree.Scalar.TheVariants as scalar
 use Rattle.wt_ast.specs.Tree.{CondTree, CondTrees}
-use Rattle.wt_grammar.specs.declared.lexeme.Kind.{Kind}
-use Rattle.wt_grammar.specs.declared.lexeme.Kind.TheVariants.{End, Key, Number, Text, Mark}
-use Rattle.wt_grammar.specs.declared.lexeme.Word.TheVariants as word
+use Rattle.wt_reading.specs.declared.lexeme.Kind.{Kind}
+use Rattle.wt_reading.specs.declared.lexeme.Kind.TheVariants.{End, Key, Number, Text, Mark}
+use Rattle.wt_lex.specs.declared.words.Word.TheVariants as word
 use Rattle.wt_grammar.specs.declared.fault.QueryFault.{QueryFault}
 use Rattle.wt_grammar.specs.declared.fault.QueryFault.TheVariants as fault
-use Rattle.wt_grammar.specs.Lexemes.{Tokens, kind, place, is_name, is_open, is_close, is_comma, is_dot, is_star, is_as}
+use Rattle.wt_reading.specs.Lexemes.{Tokens, kind, place, is_name, is_open, is_close, is_comma}
+use Rattle.wt_grammar.specs.Kinds.{is_dot, is_star, is_as}
 use Rattle.wt_grammar.specs.Refusals.{beyond, no_operand, no_literal, no_item}
 use Rattle.wt_grammar.specs.Reading as read
-use Rattle.wt_grammar.specs.Reading.{Read, Refusal, refused, odd, plus, followed, taken, joined_to, more, list, run, one_or, expect, ended, ended_by, within, name_at, text_at, name_only}
-use Rattle.wt_sentence.proofs.Inversions.{skip}
+use Rattle.wt_reading.specs.Readings.{plus, followed, taken, joined_to, more, list, expect, within}
+use Rattle.wt_grammar.specs.Reading.{Read, Refusal, refused, refusal, odd, run, one_or, ended, ended_by, name_at, text_at, name_only}
+use Rattle.wt_reading.proofs.Inversions.{skip}
 use Rattle.wt_refusal.specs.Refused.{looked}
 use Rattle.wt_refusal.proofs.Local.{AtFront, kind_front, place_front, some_looked, agree_front, LocalAt, Local, too_deep, value_at, refusal_at, table_at, less_at, as_at, seen_at, test_at, behind_at, next_at, then_at, last_at}
 
@@ -99,18 +101,18 @@ module _ (end : ℕ) (bytes : List ℕ) where
   pub by_kind : (A : Type 0) (other : Kind → QueryFault) (ts : Tokens) → LocalAt end bytes {A = A} 0 (λ us. Err (refused (other (kind us)), place end us)) ts
   by_kind A other ts = seen_at end bytes kind kind_front 0 0 (λ k us. Err (refused (other k), place end us)) ts (omega arith) (refusal_at end bytes A 0 0 (refused (other (kind ts))) ts (omega (arith, some_looked (refused (other (kind ts))) (kind ts))))
 
-  pub expect_local : (wanted : Kind → Bool) (other : Kind → QueryFault) → Local end bytes 0 (expect end wanted other)
+  pub expect_local : (wanted : Kind → Bool) (other : Kind → QueryFault) → Local end bytes 0 (expect (λ l. wanted (kind l)) (refusal end other))
   unfolding expect
   expect_local wanted other ts =
       test_at end bytes wanted 0 0 (λ us. Ok (tt, 1)) (λ us. Err (refused (other (kind us)), place end us)) ts (omega arith) (λ s. value_at end bytes 0 1 tt ts (omega arith))
       (λ s. by_kind (Unit {0}) other ts)
 
   -- a part behind the token at the front, and the parenthesis that closes it
-  pub closed_at : {A : Type 0} (d : ℕ) (part : Tokens → Read A) (other : A → Kind → QueryFault) (ts : Tokens) → LocalAt end bytes d part (drop 1 ts) → LocalAt end bytes (1 + d) (within end part other) ts
+  pub closed_at : {A : Type 0} (d : ℕ) (part : Tokens → Read A) (other : A → Kind → QueryFault) (ts : Tokens) → LocalAt end bytes d part (drop 1 ts) → LocalAt end bytes (1 + d) (within part (λ x. refusal end (other x))) ts
   closed_at d part other ts inside =
-      behind_at end bytes 1 d (λ l. followed l (part l) (λ x rest. followed rest (expect end is_close (other x) rest) (λ _ r. Ok (x, 0)))) ts
-      (then_at end bytes d part (λ x rest. followed rest (expect end is_close (other x) rest) (λ _ r. Ok (x, 0))) (drop 1 ts) inside
-      (λ x m e. last_at end bytes 0 (expect end is_close (other x)) (λ _. x) (drop m (drop 1 ts)) (expect_local is_close (other x) (drop m (drop 1 ts)))))
+      behind_at end bytes 1 d (λ l. followed l (part l) (λ x rest. followed rest (expect (λ l. is_close (kind l)) (refusal end (other x)) rest) (λ _ r. Ok (x, 0)))) ts
+      (then_at end bytes d part (λ x rest. followed rest (expect (λ l. is_close (kind l)) (refusal end (other x)) rest) (λ _ r. Ok (x, 0))) (drop 1 ts) inside
+      (λ x m e. last_at end bytes 0 (expect (λ l. is_close (kind l)) (refusal end (other x))) (λ _. x) (drop m (drop 1 ts)) (expect_local is_close (other x) (drop m (drop 1 ts)))))
 
   pub ended_at : {A : Type 0} (part : Tokens → Read A) (ts : Tokens) → LocalAt end bytes 0 part ts → LocalAt end bytes 0 (λ us. ended end us (part us)) ts
   ended_at {A} part ts local =

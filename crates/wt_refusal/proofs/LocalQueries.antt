@@ -2,18 +2,22 @@
 use Rattle.std.proofs.Common.{◌≡◌, ℕ, suc, zero, ◌-◌, ◌≤◌, ◌<◌, Bool, true, false, List, [], ◌∷◌, ◌++◌, length, drop, refl, ap, sym, ◌∙◌, arith, append_assoc, append-nil, Ok, Err, Some, None, length-drop}
 use Rattle.std.specs.Prelude.{if◌then◌else◌}
 use Rattle.wt_ast.specs.declared.tree.ColumnName.{ColumnName}
-use Rattle.wt_ast.specs.Tree.{FromTree, CondTree, select, no_filter, filter_by, table, derived, negated, is_null}
-use Rattle.wt_grammar.specs.declared.lexeme.Kind.TheVariants.{Key, Mark}
-use Rattle.wt_grammar.specs.declared.lexeme.Word.TheVariants as word
+use Rattle.wt_ast.specs.Tree.{FromTree, CondTree, select, no_filter, filter_by, table, derived, comma, negated, is_null}
+use Rattle.wt_reading.specs.declared.lexeme.Kind.{Kind}
+use Rattle.wt_reading.specs.declared.lexeme.Kind.TheVariants.{End, Key, Mark}
+use Rattle.wt_reading.proofs.Loops.{repeat_skip}
+use Rattle.wt_lex.specs.declared.words.Word.TheVariants as word
 use Rattle.wt_lex.specs.declared.token.Sym.TheVariants as sym
-use Rattle.wt_grammar.specs.declared.lexeme.Lexeme.{Lexeme}
-use Rattle.wt_grammar.specs.declared.lexeme.JoinKind.{JoinKind}
-use Rattle.wt_grammar.specs.declared.lexeme.JoinKind.TheVariants as joining
+use Rattle.wt_reading.specs.declared.lexeme.Lexeme.{Lexeme}
+use Rattle.wt_grammar.specs.declared.join.JoinKind.{JoinKind}
+use Rattle.wt_grammar.specs.declared.join.JoinKind.TheVariants as joining
 use Rattle.wt_grammar.specs.declared.fault.QueryFault.TheVariants as fault
-use Rattle.wt_grammar.specs.Lexemes.{Tokens, kind, place, is_select, is_distinct, is_all, is_from, is_where, is_as, is_inner, is_outer, is_join, is_on, is_open, is_name, begins_join}
+use Rattle.wt_reading.specs.Lexemes.{Tokens, kind, place, is_open, is_name, is_comma}
+use Rattle.wt_grammar.specs.Kinds.{is_select, is_distinct, is_all, is_from, is_where, is_as, is_inner, is_left, is_outer, is_join, is_on, begins_join}
 use Rattle.wt_grammar.specs.Refusals.{syntax, no_join}
 use Rattle.wt_grammar.specs.Reading as read
-use Rattle.wt_grammar.specs.Reading.{Read, Nest, refused, plus, followed, list, taken, made, chain, expect, within, join_of, name_at, name_only, place_or, no_query_end}
+use Rattle.wt_reading.specs.Readings.{plus, followed, list, expect, onward, repeat}
+use Rattle.wt_grammar.specs.Reading.{Read, Nest, refused, refusal, join_of, name_at, name_only, place_or, no_query_end}
 use Rattle.wt_sentence.specs.Grammar.{Column, deeper}
 use Rattle.wt_sentence.proofs.Complete.{complete_below}
 use Rattle.wt_refusal.proofs.Local.{LocalAt, Local, Gives, value_at, refusal_at, less_at, takes_at, as_at, test_at, behind_at, next_at, then_at, last_at}
@@ -46,11 +50,11 @@ module _ (end : ℕ) (bytes : List ℕ) where
       (λ s. next_at end bytes (read.bare_name end bytes) ts (bare_name_local (drop 1 ts))) (λ s. bare_name_local ts)
 
   join_word : JoinKind → Tokens → Read JoinKind
-  join_word k us = followed us (expect end is_join syntax us) (λ _ rest. Ok (k, 0))
+  join_word k us = followed us (expect (λ l. is_join (kind l)) (refusal end syntax) us) (λ _ rest. Ok (k, 0))
 
   join_word_local : (k : JoinKind) → Local end bytes 0 (join_word k)
   unfolding join_word
-  join_word_local k ts = last_at end bytes 0 (expect end is_join syntax) (λ _. k) ts (expect_local end bytes is_join syntax ts)
+  join_word_local k ts = last_at end bytes 0 (expect (λ l. is_join (kind l)) (refusal end syntax)) (λ _. k) ts (expect_local end bytes is_join syntax ts)
 
   outer_join_local : (k : JoinKind) → Local end bytes 0 (read.outer_join end k)
   unfolding read.outer_join join_word
@@ -62,15 +66,53 @@ module _ (end : ℕ) (bytes : List ℕ) where
   unfolding read.join_words join_word
   join_words_local ts =
       test_at end bytes is_join 0 1 (λ us. Ok (joining.Inner, 1)) _ ts (omega arith) (λ s. value_at end bytes 1 1 joining.Inner ts (omega arith))
-      (λ s. test_at end bytes is_inner 0 1 (λ us. plus 1 (join_word joining.Inner (drop 1 us))) (λ us. plus 1 (read.outer_join end joining.Left (drop 1 us))) ts (omega arith)
+      (λ s. test_at end bytes is_inner 0 1 (λ us. plus 1 (join_word joining.Inner (drop 1 us))) _ ts (omega arith)
       (λ s. behind_at end bytes 1 0 (join_word joining.Inner) ts (join_word_local joining.Inner (drop 1 ts)))
-      (λ s. behind_at end bytes 1 0 (read.outer_join end joining.Left) ts (outer_join_local joining.Left (drop 1 ts))))
+      (λ s. test_at end bytes is_left 0 1 (λ us. plus 1 (read.outer_join end joining.Left (drop 1 us))) (λ us. plus 1 (read.outer_join end joining.Right (drop 1 us))) ts (omega arith)
+      (λ s. behind_at end bytes 1 0 (read.outer_join end joining.Left) ts (outer_join_local joining.Left (drop 1 ts)))
+      (λ s. behind_at end bytes 1 0 (read.outer_join end joining.Right) ts (outer_join_local joining.Right (drop 1 ts)))))
 
   quantifier_local : Local end bytes 0 read.quantifier
   unfolding read.quantifier
   quantifier_local ts =
       test_at end bytes is_distinct 0 0 (λ us. Ok (true, 1)) _ ts (omega arith) (λ s. value_at end bytes 0 1 true ts (omega arith))
       (λ s. test_at end bytes is_all 0 0 (λ us. Ok (false, 1)) (λ us. Ok (false, 0)) ts (omega arith) (λ s. value_at end bytes 0 1 false ts (omega arith)) (λ s. value_at end bytes 0 0 false ts (omega arith)))
+
+  -- steps, each from what was made before
+  module _ (test : Kind → Bool) (none : test End ≡ false) (step : FromTree → Tokens → Read FromTree) (step_local : (a : FromTree) → Local end bytes 1 (step a)) where
+    steps_as : (a : FromTree) (ts : Tokens) → repeat (λ l. test (kind l)) step 0 a ts ≡ (if test (kind ts) then followed ts (step a ts) (λ f rest. repeat (λ l. test (kind l)) step 0 f rest) else Ok (a, 0))
+    unfolding repeat LocalAt
+    steps_as a [] = rw none refl
+    steps_as a (t ∷ ts) = ap (λ z. if test t.kind then z else Ok (a, 0)) (by (step a (t ∷ ts)) (step_local a (t ∷ ts)))
+      where
+        behind : (k : ℕ) → 1 ≤ k → drop (k - 1) ts ≡ drop k (t ∷ ts)
+        behind zero h = absurd (omega arith)
+        behind (suc k) h = let e : suc k - 1 ≡ k = omega arith in ap (λ z. drop z ts) e
+
+        there : (l : Tokens) → test (kind l) ≡ true → 1 ≤ length l
+        there [] h = absurd cc
+        there (u ∷ l) h = omega arith
+
+        by : (r : Read FromTree) → Gives end bytes 1 (step a) (t ∷ ts) r
+            → onward r (λ b m. repeat (λ l. test (kind l)) step (m - 1) b ts) ≡ followed (t ∷ ts) r (λ f rest. repeat (λ l. test (kind l)) step 0 f rest)
+        by (Ok x) (l, s) = ap (plus x.1) (repeat_skip (λ l. test (kind l)) step there (x.1 - 1) x.0 ts ∙ ap (repeat (λ l. test (kind l)) step 0 x.0) (behind x.1 l))
+        by (Err e) g = refl
+
+    one_step : (a : FromTree) (ts : Tokens) → ((b : FromTree) (l : Tokens) → length l < length ts → LocalAt end bytes 0 (repeat (λ l. test (kind l)) step 0 b) l)
+        → LocalAt end bytes 0 (repeat (λ l. test (kind l)) step 0 a) ts
+    one_step a ts ih =
+        as_at end bytes 0 (repeat (λ l. test (kind l)) step 0 a) (λ us. if test (kind us) then followed us (step a us) (λ f rest. repeat (λ l. test (kind l)) step 0 f rest) else Ok (a, 0)) ts (λ us h. steps_as a us)
+        (test_at end bytes test 0 0 (λ us. followed us (step a us) (λ f rest. repeat (λ l. test (kind l)) step 0 f rest)) (λ us. Ok (a, 0)) ts (omega arith)
+        (λ s. less_at end bytes 0 1 _ ts (omega arith) (then_at end bytes 1 (step a) (λ f rest. repeat (λ l. test (kind l)) step 0 f rest) ts (step_local a ts)
+        (λ f m e. ih f (drop m ts) (omega (arith, some_there test none ts s, takes_at end bytes 1 m f (step a) ts e (step_local a ts), length-drop m ts)))))
+        (λ s. value_at end bytes 0 0 a ts (omega arith)))
+
+    steps_to : (bound : ℕ) (a : FromTree) (ts : Tokens) → length ts ≤ bound → LocalAt end bytes 0 (repeat (λ l. test (kind l)) step 0 a) ts
+    steps_to zero a ts h = one_step a ts (λ b l g. absurd (omega (arith, h, g)))
+    steps_to (suc bound) a ts h = one_step a ts (λ b l g. steps_to bound b l (omega (arith, h, g)))
+
+    pub steps_local : (a : FromTree) (ts : Tokens) → LocalAt end bytes 0 (repeat (λ l. test (kind l)) step 0 a) ts
+    steps_local a ts = steps_to (length ts) a ts (omega arith)
 
   module _ (ns : Nest) (below : LocalBelow end bytes ns) where
     listed_local : {A : Type 0} (part : Tokens → Read A) → Local end bytes 0 part → (room : Bool) → ns.room ≡ room → Local end bytes 0 (read.listed end bytes ns part)
@@ -120,52 +162,33 @@ module _ (end : ℕ) (bytes : List ℕ) where
 
     -- ---- joins
 
-    join_local : (a : FromTree) → Local end bytes 1 (read.join end bytes ns a)
+    join_local : (inside : Bool) (a : FromTree) → Local end bytes 1 (read.join end bytes ns inside a)
     unfolding read.join
-    join_local a ts =
+    join_local inside a ts =
         then_at end bytes 1 (read.join_words end) _ ts (join_words_local ts) (λ k m e.
         then_at end bytes 0 (read.primary end bytes ns) _ (drop m ts) (primary_local (drop m ts)) (λ b n f.
-        by_place end bytes 0 (λ p r. followed r (expect end is_on no_join r) (λ _ q. followed q (read.cond end bytes ns q) (λ c o. Ok (join_of k a b c p, 0)))) (drop n (drop m ts))
-        (then_at end bytes 0 (expect end is_on no_join) _ (drop n (drop m ts)) (expect_local end bytes is_on no_join (drop n (drop m ts))) (λ u j g.
+        by_place end bytes 0 (λ p r. followed r (expect (λ l. is_on (kind l)) (refusal end (no_join inside)) r) (λ _ q. followed q (read.cond end bytes ns q) (λ c o. Ok (join_of k a b c p, 0)))) (drop n (drop m ts))
+        (then_at end bytes 0 (expect (λ l. is_on (kind l)) (refusal end (no_join inside))) _ (drop n (drop m ts)) (expect_local end bytes is_on (no_join inside) (drop n (drop m ts))) (λ u j g.
         last_at end bytes 0 (read.cond end bytes ns) (λ c. join_of k a b c (place end (drop n (drop m ts)))) (drop j (drop n (drop m ts))) (cond_local end bytes ns below (drop j (drop n (drop m ts))))))))
 
-    joins_skip : (a : FromTree) (k : ℕ) (ts : Tokens) → read.joins end bytes ns a k ts ≡ read.joins end bytes ns a 0 (drop k ts)
-    unfolding read.joins
-    joins_skip a zero ts = refl
-    joins_skip a (suc k) [] = refl
-    joins_skip a (suc k) (t ∷ ts) = joins_skip a k ts
-
-    joins_as : (a : FromTree) (ts : Tokens) → read.joins end bytes ns a 0 ts ≡ (if begins_join (kind ts) then followed ts (read.join end bytes ns a ts) (λ f rest. read.joins end bytes ns f 0 rest) else Ok (a, 0))
-    unfolding read.joins LocalAt
-    joins_as a [] = refl
-    joins_as a (t ∷ ts) = ap (λ z. if begins_join t.kind then z else Ok (a, 0)) (by (read.join end bytes ns a (t ∷ ts)) (join_local a (t ∷ ts)))
-      where
-        behind : (k : ℕ) → 1 ≤ k → drop (k - 1) ts ≡ drop k (t ∷ ts)
-        behind zero h = absurd (omega arith)
-        behind (suc k) h = let e : suc k - 1 ≡ k = omega arith in ap (λ z. drop z ts) e
-
-        by : (r : Read FromTree) → Gives end bytes 1 (read.join end bytes ns a) (t ∷ ts) r → chain r (read.joins end bytes ns (made a r) (taken r - 1) ts) ≡ followed (t ∷ ts) r (λ f rest. read.joins end bytes ns f 0 rest)
-        by (Ok x) (l, s) = ap (plus x.1) (joins_skip x.0 (x.1 - 1) ts ∙ ap (read.joins end bytes ns x.0 0) (behind x.1 l))
-        by (Err e) g = refl
-
-    one_join : (a : FromTree) (ts : Tokens) → ((b : FromTree) (l : Tokens) → length l < length ts → LocalAt end bytes 0 (read.joins end bytes ns b 0) l) → LocalAt end bytes 0 (read.joins end bytes ns a 0) ts
-    one_join a ts ih =
-        as_at end bytes 0 (read.joins end bytes ns a 0) (λ us. if begins_join (kind us) then followed us (read.join end bytes ns a us) (λ f rest. read.joins end bytes ns f 0 rest) else Ok (a, 0)) ts (λ us h. joins_as a us)
-        (test_at end bytes begins_join 0 0 (λ us. followed us (read.join end bytes ns a us) (λ f rest. read.joins end bytes ns f 0 rest)) (λ us. Ok (a, 0)) ts (omega arith)
-        (λ s. less_at end bytes 0 1 _ ts (omega arith) (then_at end bytes 1 (read.join end bytes ns a) (λ f rest. read.joins end bytes ns f 0 rest) ts (join_local a ts)
-        (λ f m e. ih f (drop m ts) (omega (arith, some_there begins_join refl ts s, least f m e, length-drop m ts)))))
-        (λ s. value_at end bytes 0 0 a ts (omega arith)))
-      where
-        least : (f : FromTree) (m : ℕ) → read.join end bytes ns a ts ≡ Ok (f, m) → 1 ≤ m
-        least f m e = takes_at end bytes 1 m f (read.join end bytes ns a) ts e (join_local a ts)
-
-    joins_to : (bound : ℕ) (a : FromTree) (ts : Tokens) → length ts ≤ bound → LocalAt end bytes 0 (read.joins end bytes ns a 0) ts
-    joins_to zero a ts h = one_join a ts (λ b l g. absurd (omega (arith, h, g)))
-    joins_to (suc bound) a ts h = one_join a ts (λ b l g. joins_to bound b l (omega (arith, h, g)))
-
-    pub joined_local : Local end bytes 0 (read.joined end bytes ns)
+    pub joined_local : (inside : Bool) → Local end bytes 0 (read.joined end bytes ns inside)
     unfolding read.joined
-    joined_local ts = then_at end bytes 0 (read.primary end bytes ns) (λ a rest. read.joins end bytes ns a 0 rest) ts (primary_local ts) (λ a m e. joins_to (length (drop m ts)) a (drop m ts) (omega arith))
+    joined_local inside ts =
+        then_at end bytes 0 (read.primary end bytes ns) (λ a rest. repeat (λ l. begins_join (kind l)) (read.join end bytes ns inside) 0 a rest) ts (primary_local ts)
+        (λ a m e. steps_local begins_join refl (read.join end bytes ns inside) (join_local inside) a (drop m ts))
+
+    listed_part_local : (a : FromTree) → Local end bytes 1 (read.listed_part end bytes ns a)
+    unfolding read.listed_part
+    listed_part_local a ts =
+        by_place end bytes 1 (λ p us. plus 1 (followed (drop 1 us) (read.joined end bytes ns false (drop 1 us)) (λ b rest. Ok (comma a b p, 0)))) ts
+        (behind_at end bytes 1 0 (λ us. followed us (read.joined end bytes ns false us) (λ b rest. Ok (comma a b (place end ts), 0))) ts
+        (last_at end bytes 0 (read.joined end bytes ns false) (λ b. comma a b (place end ts)) (drop 1 ts) (joined_local false (drop 1 ts))))
+
+    from_list_local : Local end bytes 0 (read.from_list end bytes ns)
+    unfolding read.from_list
+    from_list_local ts =
+        then_at end bytes 0 (read.joined end bytes ns false) (λ a rest. repeat (λ l. is_comma (kind l)) (read.listed_part end bytes ns) 0 a rest) ts (joined_local false ts)
+        (λ a m e. steps_local is_comma refl (read.listed_part end bytes ns) listed_part_local a (drop m ts))
 
     -- ---- queries
 
@@ -182,8 +205,8 @@ module _ (end : ℕ) (bytes : List ℕ) where
     body_local ts =
         then_at end bytes 0 read.quantifier _ ts (quantifier_local ts) (λ d m e.
         let l = drop m ts in then_at end bytes 0 (list (read.item end bytes)) _ l (list_at end bytes 0 (read.item end bytes) (item_local end bytes) l (item_local end bytes l)) (λ is m1 e1.
-        let l1 = drop m1 l in then_at end bytes 0 (expect end is_from syntax) _ l1 (expect_local end bytes is_from syntax l1) (λ u m2 e2.
-        let l2 = drop m2 l1 in then_at end bytes 0 (read.joined end bytes ns) _ l2 (joined_local l2) (λ p m3 e3.
+        let l1 = drop m1 l in then_at end bytes 0 (expect (λ l. is_from (kind l)) (refusal end syntax)) _ l1 (expect_local end bytes is_from syntax l1) (λ u m2 e2.
+        let l2 = drop m2 l1 in then_at end bytes 0 (read.from_list end bytes ns) _ l2 (from_list_local l2) (λ p m3 e3.
         let l3 = drop m3 l2 in last_at end bytes 0 (read.filter end bytes ns) (λ f. select d is p f) l3 (filter_local l3)))))
 
   -- ---- levels
@@ -229,7 +252,7 @@ module _ (end : ℕ) (bytes : List ℕ) where
         conds = λ room ts. closed_at end bytes 0 (read.cond end bytes (read.nest end bytes l)) (λ _. syntax) ts (cond_local end bytes (read.nest end bytes l) below (drop 1 ts));
         queries = λ room ts. closed_at end bytes 0 (λ us. plus 1 (read.body end bytes (read.nest end bytes l) (drop 1 us))) no_query_end ts
             (next_at end bytes (read.body end bytes (read.nest end bytes l)) (drop 1 ts) (body_local (read.nest end bytes l) below (drop 1 (drop 1 ts))));
-        froms = λ room ts. closed_at end bytes 0 (read.joined end bytes (read.nest end bytes l)) (λ _. no_join) ts (joined_local (read.nest end bytes l) below (drop 1 ts));
+        froms = λ room ts. closed_at end bytes 0 (read.joined end bytes (read.nest end bytes l) true) (λ _. no_join true) ts (joined_local (read.nest end bytes l) below true (drop 1 ts));
         no_conds = λ room ts. absurd cc;
         no_queries = λ room ts. absurd cc;
         no_froms = λ room ts. absurd cc;

@@ -6,19 +6,19 @@ use Rattle.wt_ast.specs.declared.tree.ColumnName.{ColumnName}
 use Rattle.wt_ast.specs.declared.tree.Scalar.{Scalar}
 use Rattle.wt_ast.specs.declared.tree.Scalar.TheVariants as scalar
 use Rattle.wt_ast.specs.Tree.{is_null}
-use Rattle.wt_grammar.specs.declared.lexeme.Kind.{Kind}
-use Rattle.wt_grammar.specs.declared.lexeme.Kind.TheVariants.{Name, Mark}
-use Rattle.wt_grammar.specs.declared.lexeme.Lexeme.{Lexeme}
-use Rattle.wt_grammar.specs.declared.lexeme.Stage.{Stage}
-use Rattle.wt_grammar.specs.declared.lexeme.Stage.TheVariants as stage
+use Rattle.wt_reading.specs.declared.lexeme.Kind.{Kind}
+use Rattle.wt_reading.specs.declared.lexeme.Kind.TheVariants.{Name, Mark}
+use Rattle.wt_reading.specs.declared.lexeme.Lexeme.{Lexeme}
 use Rattle.wt_grammar.specs.declared.fault.QueryFault.TheVariants as fault
-use Rattle.wt_grammar.specs.Lexemes.{Tokens, kind, place, is_is, is_name, is_open, is_close, is_comma, is_dot, is_null_word}
+use Rattle.wt_reading.specs.Lexemes.{Tokens, kind, place, is_name, is_open, is_close, is_comma}
+use Rattle.wt_grammar.specs.Kinds.{is_is, is_dot, is_null_word}
 use Rattle.wt_grammar.specs.Reading as read
-use Rattle.wt_grammar.specs.Reading.{Read, refused, Nest, plus, followed, run, next_stage, ends_column, in_follows, is_tuple, name_at, cmp_of}
+use Rattle.wt_grammar.specs.Reading.{Read, refused, Nest, run, in_follows, is_tuple, name_at, cmp_of}
+use Rattle.wt_sentence.proofs.Stages.{Stage, before_column, behind_name, behind_dot, behind_column, next_stage, ends_column, passes, passes_is}
 use Rattle.wt_sentence.specs.Grammar.{Column, Deeper}
 use Rattle.wt_sentence.specs.Grammar as spec
-use Rattle.wt_sentence.proofs.Inversions.{held}
-use Rattle.wt_sentence.proofs.Took.{drop_front}
+use Rattle.wt_reading.proofs.Inversions.{held}
+use Rattle.wt_reading.proofs.Took.{drop_front}
 use Rattle.wt_sentence.proofs.Follows.{Plain, name_is, comma_is, close_is, comma_plain, close_plain}
 use Rattle.wt_sentence.proofs.CompleteParts.{operand_reads}
 
@@ -32,43 +32,43 @@ closes_plain k (inr h) = close_plain k h
 
 -- a tuple is told by the kind of its first token
 stage_by : Stage → Kind → Tokens → Bool
-stage_by at k ts = elim (next_stage at k) [ Some s ↦ is_tuple s ts | None ↦ ends_column at && is_close k && in_follows ts ]
+stage_by at k ts = elim (next_stage at k) [ Some s ↦ passes s ts | None ↦ ends_column at && is_close k && in_follows ts ]
 
-before_column : (ts : Tokens) → is_tuple stage.BeforeColumn ts ≡ true → (is_name (kind ts) ≡ true) × (is_tuple stage.BehindName (drop 1 ts) ≡ true)
+first_name : (ts : Tokens) → passes before_column ts ≡ true → (is_name (kind ts) ≡ true) × (passes behind_name (drop 1 ts) ≡ true)
 unfolding stage_by
-before_column [] h = absurd cc
-before_column (t ∷ ts) h = by t.kind h
+first_name [] h = absurd cc
+first_name (t ∷ ts) h = by t.kind h
   where
-    by : (k : Kind) → stage_by stage.BeforeColumn k ts ≡ true → (is_name k ≡ true) × (is_tuple stage.BehindName ts ≡ true)
+    by : (k : Kind) → stage_by before_column k ts ≡ true → (is_name k ≡ true) × (passes behind_name ts ≡ true)
     by Name h = (refl, h)
     by _ h = absurd cc
 
-behind_dot : (ts : Tokens) → is_tuple stage.BehindDot ts ≡ true → (is_name (kind ts) ≡ true) × (is_tuple stage.BehindColumn (drop 1 ts) ≡ true)
+dot_name : (ts : Tokens) → passes behind_dot ts ≡ true → (is_name (kind ts) ≡ true) × (passes behind_column (drop 1 ts) ≡ true)
 unfolding stage_by
-behind_dot [] h = absurd cc
-behind_dot (t ∷ ts) h = by t.kind h
+dot_name [] h = absurd cc
+dot_name (t ∷ ts) h = by t.kind h
   where
-    by : (k : Kind) → stage_by stage.BehindDot k ts ≡ true → (is_name k ≡ true) × (is_tuple stage.BehindColumn ts ≡ true)
+    by : (k : Kind) → stage_by behind_dot k ts ≡ true → (is_name k ≡ true) × (passes behind_column ts ≡ true)
     by Name h = (refl, h)
     by _ h = absurd cc
 
-behind_name : (ts : Tokens) → is_tuple stage.BehindName ts ≡ true → ((is_dot (kind ts) ≡ true) × (is_tuple stage.BehindDot (drop 1 ts) ≡ true)) ⊎ Closes (kind ts)
+name_goes : (ts : Tokens) → passes behind_name ts ≡ true → ((is_dot (kind ts) ≡ true) × (passes behind_dot (drop 1 ts) ≡ true)) ⊎ Closes (kind ts)
 unfolding stage_by
-behind_name [] h = absurd cc
-behind_name (t ∷ ts) h = by t.kind h
+name_goes [] h = absurd cc
+name_goes (t ∷ ts) h = by t.kind h
   where
-    by : (k : Kind) → stage_by stage.BehindName k ts ≡ true → ((is_dot k ≡ true) × (is_tuple stage.BehindDot ts ≡ true)) ⊎ Closes k
+    by : (k : Kind) → stage_by behind_name k ts ≡ true → ((is_dot k ≡ true) × (passes behind_dot ts ≡ true)) ⊎ Closes k
     by (Mark sym.Dot) h = inl (refl, h)
     by (Mark sym.Comma) h = inr (inl refl)
     by (Mark sym.Close) h = inr (inr refl)
     by _ h = absurd cc
 
-behind_column : (ts : Tokens) → is_tuple stage.BehindColumn ts ≡ true → Closes (kind ts)
+column_goes : (ts : Tokens) → passes behind_column ts ≡ true → Closes (kind ts)
 unfolding stage_by
-behind_column [] h = absurd cc
-behind_column (t ∷ ts) h = by t.kind h
+column_goes [] h = absurd cc
+column_goes (t ∷ ts) h = by t.kind h
   where
-    by : (k : Kind) → stage_by stage.BehindColumn k ts ≡ true → Closes k
+    by : (k : Kind) → stage_by behind_column k ts ≡ true → Closes k
     by (Mark sym.Comma) h = inl refl
     by (Mark sym.Close) h = inr refl
     by _ h = absurd cc
@@ -79,17 +79,17 @@ module _ (end : ℕ) (bytes : List ℕ) where
   ColumnCloses ts = (c : ColumnName) × (m : ℕ) × (read.column end bytes ts ≡ Ok (c, m)) × Closes (kind (drop m ts))
 
   -- a tuple begins with a column
-  pub tuple_column : (ts : Tokens) → is_tuple stage.BeforeColumn ts ≡ true → ColumnCloses ts
+  pub tuple_column : (ts : Tokens) → is_tuple ts ≡ true → ColumnCloses ts
   unfolding read.column read.name
-  tuple_column ts h = let (is, h1) = before_column ts h in by is (behind_name (drop 1 ts) h1)
+  tuple_column ts h = let (is, h1) = first_name ts (passes_is ts ∙ h) in by is (name_goes (drop 1 ts) h1)
     where
-      by : is_name (kind ts) ≡ true → ((is_dot (kind (drop 1 ts)) ≡ true) × (is_tuple stage.BehindDot (drop 1 (drop 1 ts)) ≡ true)) ⊎ Closes (kind (drop 1 ts)) → ColumnCloses ts
+      by : is_name (kind ts) ≡ true → ((is_dot (kind (drop 1 ts)) ≡ true) × (passes behind_dot (drop 1 (drop 1 ts)) ≡ true)) ⊎ Closes (kind (drop 1 ts)) → ColumnCloses ts
       by is (inr closes) =
           let plain = closes_plain _ closes in
           (record { table = None; name = name_at bytes ts; at = place end ts }, 1, rw (is, plain.not_dot, plain.not_open) refl, closes)
       by is (inl (dot, h2)) =
-          let (named, h3) = behind_dot (drop 1 (drop 1 ts)) h2 in
-          let closes = behind_column (drop 1 (drop 1 (drop 1 ts))) h3 in
+          let (named, h3) = dot_name (drop 1 (drop 1 ts)) h2 in
+          let closes = column_goes (drop 1 (drop 1 (drop 1 ts))) h3 in
           let plain = closes_plain _ closes in
           let two : drop 1 (drop 1 ts) ≡ drop 2 ts = drop-drop 1 1 ts in
           let three : drop 1 (drop 2 ts) ≡ drop 3 ts = drop-drop 1 2 ts in

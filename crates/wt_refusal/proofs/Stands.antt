@@ -2,7 +2,7 @@
 use Rattle.std.proofs.Common.{◌≡◌, ℕ, ◌≤◌, List, [], ◌∷◌, ◌++◌, refl, ap, sym, ◌∙◌, arith, Err, subst}
 use Rattle.std.specs.Prelude.{map}
 use Rattle.wt_lex.specs.Sound.{InOrder}
-use Rattle.wt_grammar.specs.Lexemes.{Tokens, place}
+use Rattle.wt_reading.specs.Lexemes.{Tokens, place}
 use Rattle.wt_grammar.specs.Reading.{Refusal, statement}
 use Rattle.wt_viable.specs.Sentences.{BeginsSome}
 use Rattle.wt_refusal.specs.Refused.{StandsAt}

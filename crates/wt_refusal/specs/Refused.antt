@@ -5,11 +5,12 @@ use Rattle.wt_ast.specs.Tree.{QueryTree}
 use Rattle.wt_lex.specs.declared.token.Sym.TheVariants as sym
 use Rattle.wt_grammar.specs.declared.fault.QueryFault.{QueryFault}
 use Rattle.wt_grammar.specs.declared.fault.QueryFault.TheVariants as fault
-use Rattle.wt_grammar.specs.declared.lexeme.Kind.{Kind}
-use Rattle.wt_grammar.specs.declared.lexeme.Kind.TheVariants.{Mark}
-use Rattle.wt_grammar.specs.declared.lexeme.Lexeme.{Lexeme}
-use Rattle.wt_grammar.specs.Lexemes.{Tokens, kind, is_open, is_close, is_comma}
-use Rattle.wt_grammar.specs.Reading.{Refusal, refused}
+use Rattle.wt_reading.specs.declared.lexeme.Kind.{Kind}
+use Rattle.wt_reading.specs.declared.lexeme.Kind.TheVariants.{Mark}
+use Rattle.wt_reading.specs.declared.lexeme.Lexeme.{Lexeme}
+use Rattle.wt_reading.specs.Lexemes.{Tokens, kind, is_open, is_close, is_comma}
+use Rattle.wt_grammar.specs.Reading.{Refusal, refused, in_follows}
+use Rattle.wt_reading.specs.Sentences.{Listed, Parens}
 use Rattle.wt_sentence.specs.Grammar.{Column}
 use Rattle.wt_viable.specs.Sentences.{BeginsSome, IsSentence, Parts}
 
@@ -39,12 +40,16 @@ module _ (end : ℕ) (bytes : List ℕ) where
   NoneGoesOn Depth n before behind =
       (levels : ℕ) (q : QueryTree) (next : Tokens) → Depth levels → take n next ≡ take n behind → IsSentence end bytes levels q (before ++ next) → ⊥
 
-  -- A `(` and a column stand before, and a `,` or `)` behind: what may still become a tuple, and was read as a condition
-  -- in parentheses, for its `)` is not followed by IN.
+  -- no columns in parentheses stand at the front with IN or NOT IN behind them
+  abbrev pub NoTuple : Tokens → Type 0
+  NoTuple ts = (cs : List ColumnName) (a b : Tokens) → ts ≡ a ++ b → Parens (Listed (Column end bytes)) cs a → in_follows b ≡ true → ⊥
+
+  -- A `(` and a column stand before, and a `,` or `)` behind: what might have become a tuple. But no tuple stands there: the
+  -- tokens from that `(` on are no columns in parentheses with IN or NOT IN behind them.
   abbrev pub IsNoTuple : Tokens → Tokens → Type 0
   IsNoTuple before behind =
       (a : Tokens) × (t : Lexeme) × (b : Tokens) × (c : ColumnName) × (before ≡ a ++ t ∷ b) × (is_open t.kind ≡ true) × Column end bytes c b
-      × ((is_comma (kind behind) ≡ true) ⊎ (is_close (kind behind) ≡ true))
+      × ((is_comma (kind behind) ≡ true) ⊎ (is_close (kind behind) ≡ true)) × NoTuple (t ∷ (b ++ behind))
 
   abbrev pub Ends : Refusal → Tokens → Tokens → Type 0
   Ends why before behind = NoneGoesOn (Speaks why) (looked why (kind behind)) before behind ⊎ ((why ≡ refused fault.Syntax) × IsNoTuple before behind)

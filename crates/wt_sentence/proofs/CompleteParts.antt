@@ -1,5 +1,5 @@
 -- What the grammar derives is read: names, columns, literals, operands, items.
-use Rattle.std.proofs.Common.{◌≡◌, ℕ, suc, ◌+◌, ◌^◌, ◌<◌, ◌≤◌, inl, inr, Bool, true, false, List, [], ◌∷◌, ◌++◌, length, drop, refl, ap, sym, ◌∙◌, arith, append_assoc, length-append, add-zero, Ok, Option, Some, None, subst}
+use Rattle.std.proofs.Common.{◌≡◌, ℕ, ◌^◌, ◌<◌, ◌≤◌, inl, inr, Bool, true, false, List, [], ◌∷◌, ◌++◌, length, drop, refl, ap, sym, ◌∙◌, append_assoc, add-zero, Ok, Option, Some, None, subst}
 use Rattle.std.proofs.lemmas.Bool.{lt-ltb, le-ltb}
 use Rattle.std.specs.Prelude.{◌&&◌, pos, neg_ℤ}
 use Rattle.wt_value.specs.declared.value.Value.{Value}
@@ -9,82 +9,37 @@ use Rattle.wt_ast.specs.declared.tree.Item.TheVariants as items
 use Rattle.wt_ast.specs.declared.tree.Scalar.{Scalar}
 use Rattle.wt_ast.specs.declared.tree.Scalar.TheVariants as scalar
 use Rattle.wt_ast.specs.Tree.{CondTree, CondTrees}
-use Rattle.wt_grammar.specs.declared.lexeme.Kind.{Kind}
-use Rattle.wt_grammar.specs.declared.lexeme.Kind.TheVariants.{Name}
-use Rattle.wt_grammar.specs.declared.lexeme.Lexeme.{Lexeme}
+use Rattle.wt_reading.specs.declared.lexeme.Kind.{Kind}
+use Rattle.wt_reading.specs.declared.lexeme.Kind.TheVariants.{Name}
 use Rattle.wt_grammar.specs.declared.fault.QueryFault.{QueryFault}
-use Rattle.wt_grammar.specs.Lexemes.{Tokens, kind, place, is_name, is_open, is_comma, is_dot, is_star, is_as}
+use Rattle.wt_reading.specs.Lexemes.{Tokens, kind, place, at, is_name, is_open, is_comma}
+use Rattle.wt_grammar.specs.Kinds.{is_dot, is_star, is_as}
 use Rattle.wt_grammar.specs.Refusals.{beyond}
-use Rattle.wt_grammar.specs.Reading.{Read, plus, followed, joined_to, more, list, run, one_or, expect, name, column, operand, operand_by, literal, literal_by, alias, item, item_front, ended, ended_by, unsigned, negative, negative_by, listed_negative, name_at, text_at, name_only}
-use Rattle.wt_sentence.specs.Grammar.{Seq, One, Is, IsAt, Behind, Listed, Parens, Run, Column, Literal, AnyLiteral, Operand, Named, Alias, IsItem}
+use Rattle.wt_reading.specs.Readings.{plus, followed, more, list, expect}
+use Rattle.wt_grammar.specs.Reading.{Read, refusal, run, one_or, name, column, operand, operand_by, literal, literal_by, alias, item, item_front, ended, ended_by, unsigned, negative, negative_by, listed_negative, name_at, text_at, name_only}
+use Rattle.wt_reading.specs.Sentences.{Is, IsAt, Behind, Listed}
+use Rattle.wt_sentence.specs.Grammar.{Run, Column, Literal, AnyLiteral, Operand, Named, Alias, IsItem}
 use Rattle.wt_sentence.specs.Grammar as spec
-use Rattle.wt_sentence.proofs.Inversions.{skip}
-use Rattle.wt_sentence.proofs.Took.{drop_front}
+use Rattle.wt_reading.proofs.Took.{drop_front}
+use Rattle.wt_reading.proofs.Complete as general
+use Rattle.wt_reading.proofs.Complete.{then_reads, last_reads, plus_one}
 use Rattle.wt_sentence.proofs.Follows.{Plain, name_is, as_is}
 
 -- ---- readings put together
-
-pub then_reads : {A B : Type 0} (part : Tokens → Read A) (f : A → Tokens → Read B) (ts a b rest : Tokens) (x : A) (y : B) → ts ≡ a ++ b
-    → part (a ++ (b ++ rest)) ≡ Ok (x, length a) → f x (b ++ rest) ≡ Ok (y, length b) → followed (ts ++ rest) (part (ts ++ rest)) f ≡ Ok (y, length ts)
-then_reads part f ts a b rest x y e h g =
-    let whole = ap (λ l. l ++ rest) e ∙ append_assoc a b rest in
-    ap (λ l. followed l (part l) f) whole
-    ∙ ap (λ r. followed (a ++ (b ++ rest)) r f) h
-    ∙ ap (λ l. plus (length a) (f x l)) (drop_front a (b ++ rest))
-    ∙ ap (plus (length a)) g
-    ∙ ap (λ n. Ok (y, n)) (sym (length-append a b) ∙ sym (ap length e))
-
-pub last_reads : {A B : Type 0} (part : Tokens → Read A) (f : A → B) (ts rest : Tokens) (x : A) → part (ts ++ rest) ≡ Ok (x, length ts)
-    → followed (ts ++ rest) (part (ts ++ rest)) (λ x r. Ok (f x, 0)) ≡ Ok (f x, length ts)
-last_reads part f ts rest x h =
-    ap (λ r. followed (ts ++ rest) r (λ x r. Ok (f x, 0))) h ∙ ap (λ n. Ok (f x, n)) (add-zero (length ts))
-
--- a token in front of what is read
-pub plus_one : {A : Type 0} (r : Read A) (x : A) (n : ℕ) → r ≡ Ok (x, n) → plus 1 r ≡ Ok (x, suc n)
-plus_one r x n h = let e : 1 + n ≡ suc n = omega arith in ap (plus 1) h ∙ ap (λ k. Ok (x, k)) e
-
-pub stops : {A : Type 0} (sep : Kind → Bool) (part : Tokens → Read A) (ts : Tokens) → sep (kind ts) ≡ false → more sep part 0 ts ≡ Ok ([], 0)
-unfolding more
-stops sep part [] h = refl
-stops sep part (t ∷ ts) h = rw h
-
-pub goes : {A : Type 0} (sep : Kind → Bool) (part : Tokens → Read A) (t : Lexeme) (ts : Tokens) (x : A) (n : ℕ) → sep t.kind ≡ true → part ts ≡ Ok (x, n)
-    → more sep part 0 (t ∷ ts) ≡ joined_to (Ok (x, n)) (more sep part 0 (drop n ts))
-unfolding more
-goes sep part t ts x n h e = rw (h, e, skip sep part n ts)
 
 -- each sentence of the part is read before what may follow it
 abbrev pub Completes : {A : Type 0} → (A → Tokens → Type 0) → (Kind → Type 0) → (Tokens → Read A) → Type 0
 Completes {A} Part Follow part = (a rest : Tokens) (x : A) → Part x a → Follow (kind rest) → part (a ++ rest) ≡ Ok (x, length a)
 
-module _ {A : Type 0} (sep : Kind → Bool) (Part : A → Tokens → Type 0) (Follow : Kind → Type 0) (part : Tokens → Read A)
-    (complete : Completes Part Follow part) (sep_follows : (k : Kind) → sep k ≡ true → Follow k) where
-  follows : (b rest : Tokens) (xs : List A) → Behind sep Part xs b → Follow (kind rest) → Follow (kind (b ++ rest))
-  follows b rest [] h f = subst (λ b. Follow (kind (b ++ rest))) (sym h) f
-  follows b rest (x ∷ xs) (s, c, e, (t, e', w), q) f = subst (λ b. Follow (kind (b ++ rest))) (sym (e ∙ ap (λ z. z ++ c) e')) (sep_follows t.kind w)
-
-  pub behind_reads : (b rest : Tokens) (xs : List A) → Behind sep Part xs b → Follow (kind rest) → sep (kind rest) ≡ false → more sep part 0 (b ++ rest) ≡ Ok (xs, length b)
-  behind_reads b rest [] h f s = ap (λ b. more sep part 0 (b ++ rest)) h ∙ stops sep part rest s ∙ ap (λ b. Ok ([], length b)) (sym h)
-  behind_reads b rest (x ∷ xs) (c, d, e, (t, e', w), (a, b', e'', p, q)) f s =
-      let whole : b ≡ t ∷ (a ++ b') = e ∙ (λ i. e' i ++ e'' i) in
-      let read : part (a ++ (b' ++ rest)) ≡ Ok (x, length a) = complete a (b' ++ rest) x p (follows b' rest xs q f) in
-      let others : more sep part 0 (drop (length a) (a ++ (b' ++ rest))) ≡ Ok (xs, length b') = ap (more sep part 0) (drop_front a (b' ++ rest)) ∙ behind_reads b' rest xs q f s in
-      let size : length a + length b' + 1 ≡ length b = omega (arith, ap length whole, length-append a b') in
-      ap (λ b. more sep part 0 (b ++ rest)) whole
-      ∙ ap (λ l. more sep part 0 (t ∷ l)) (append_assoc a b' rest)
-      ∙ goes sep part t (a ++ (b' ++ rest)) x (length a) w read
-      ∙ ap (joined_to (Ok (x, length a))) others
-      ∙ ap (λ n. Ok (x ∷ xs, n)) size
-
 pub list_reads : {A : Type 0} (Part : A → Tokens → Type 0) (Follow : Kind → Type 0) (part : Tokens → Read A) → Completes Part Follow part
     → ((k : Kind) → is_comma k ≡ true → Follow k) → (a rest : Tokens) (xs : List A) → Listed Part xs a → Follow (kind rest) → is_comma (kind rest) ≡ false
     → list part (a ++ rest) ≡ Ok (xs, length a)
-unfolding list
-list_reads Part Follow part complete comma ts rest xs (y, ys, (a, b, e, p, q), is) f s =
-    then_reads part (λ x rest. followed rest (more is_comma part 0 rest) (λ xs r. Ok (x ∷ xs, 0))) ts a b rest y (y ∷ ys) e
-    (complete a (b ++ rest) y p (follows is_comma Part Follow part complete comma b rest ys q f))
-    (last_reads (more is_comma part 0) (λ xs. y ∷ xs) b rest ys (behind_reads is_comma Part Follow part complete comma b rest ys q f s))
-    ∙ ap (λ z. Ok (z, length ts)) (sym is)
+list_reads Part Follow part complete comma = general.list_reads Part (λ ts. Follow (kind ts)) part complete (λ ts. comma (kind ts))
+
+follows : {A : Type 0} (sep : Kind → Bool) (Part : A → Tokens → Type 0) (Follow : Kind → Type 0) → ((k : Kind) → sep k ≡ true → Follow k) → (b rest : Tokens) (xs : List A) → Behind sep Part xs b
+    → Follow (kind rest) → Follow (kind (b ++ rest))
+follows sep Part Follow joint b rest [] h f = subst (λ b. Follow (kind (b ++ rest))) (sym h) f
+follows sep Part Follow joint b rest (x ∷ xs) (s, c, e, (t, e', w), q) f = subst (λ b. Follow (kind (b ++ rest))) (sym (e ∙ ap (λ z. z ++ c) e')) (joint t.kind w)
 
 pub run_reads : (sep : Kind → Bool) (whole : ℕ → CondTrees → CondTree) (Part : CondTree → Tokens → Type 0) (Follow : Kind → Type 0) (part : Tokens → Read CondTree) → Completes Part Follow part
     → ((k : Kind) → sep k ≡ true → Follow k) → (a rest : Tokens) (c : CondTree) → Run sep whole Part c a → Follow (kind rest) → sep (kind rest) ≡ false
@@ -92,8 +47,8 @@ pub run_reads : (sep : Kind → Bool) (whole : ℕ → CondTrees → CondTree) (
 unfolding run
 run_reads sep whole Part Follow part complete joint ts rest c (x, xs, (a, b, e, p, q), is) f s =
     then_reads part (λ x rest. followed rest (more sep part 0 rest) (λ xs r. Ok (one_or whole x xs, 0))) ts a b rest x (one_or whole x xs) e
-    (complete a (b ++ rest) x p (follows sep Part Follow part complete joint b rest xs q f))
-    (last_reads (more sep part 0) (λ xs. one_or whole x xs) b rest xs (behind_reads sep Part Follow part complete joint b rest xs q f s))
+    (complete a (b ++ rest) x p (follows sep Part Follow joint b rest xs q f))
+    (last_reads (more sep part 0) (λ xs. one_or whole x xs) b rest xs (general.behind_reads sep Part (λ ts. Follow (kind ts)) part complete (λ ts. joint (kind ts)) b rest xs q f s))
     ∙ ap (λ z. Ok (z, length ts)) (sym is)
 
 -- a value that is followed by what may follow it
@@ -106,9 +61,9 @@ ended_reads end part ts rest x none h =
     ∙ ap (λ n. Ok (x, n)) (add-zero (length ts))
 
 -- one token that has to stand here
-pub expect_reads : (end : ℕ) (wanted : Kind → Bool) (other : Kind → QueryFault) (a rest : Tokens) → Is wanted a → expect end wanted other (a ++ rest) ≡ Ok (tt, length a)
+pub expect_reads : (end : ℕ) (wanted : Kind → Bool) (other : Kind → QueryFault) (a rest : Tokens) → Is wanted a → expect (at wanted) (refusal end other) (a ++ rest) ≡ Ok (tt, length a)
 unfolding expect
-expect_reads end wanted other a rest (t, e, w) = subst (λ l. expect end wanted other (l ++ rest) ≡ Ok (tt, length l)) (sym e) (rw w refl)
+expect_reads end wanted other a rest (t, e, w) = subst (λ l. expect (at wanted) (refusal end other) (l ++ rest) ≡ Ok (tt, length l)) (sym e) (rw w refl)
 
 pub is_at : (wanted : Kind → Bool) (at : ℕ) (a : Tokens) → IsAt wanted at a → Is wanted a
 is_at wanted at a (t, e, w) = (t, e, w.0)

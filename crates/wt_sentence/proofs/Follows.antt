@@ -2,13 +2,14 @@
 use Rattle.std.proofs.Common.{◌≡◌, true, false, refl, ap, sym, Some, None, subst}
 use Rattle.wt_lex.specs.declared.token.Sym.TheVariants as sym
 use Rattle.wt_ast.specs.declared.tree.CmpWord.{CmpWord}
-use Rattle.wt_grammar.specs.declared.lexeme.Kind.{Kind}
-use Rattle.wt_grammar.specs.declared.lexeme.Kind.TheVariants.{End, Key, Name, Mark}
-use Rattle.wt_grammar.specs.declared.lexeme.Word.TheVariants as word
-use Rattle.wt_grammar.specs.Lexemes.{is_and, is_or, is_not, is_select, is_distinct, is_all, is_from, is_where, is_between, is_is, is_null_word, is_in, is_as, is_inner, is_left, is_outer, is_join, is_on, is_open, is_close, is_comma, is_dot, is_star, is_name, begins_join}
+use Rattle.wt_reading.specs.declared.lexeme.Kind.{Kind}
+use Rattle.wt_reading.specs.declared.lexeme.Kind.TheVariants.{End, Key, Name, Mark}
+use Rattle.wt_lex.specs.declared.words.Word.TheVariants as word
+use Rattle.wt_reading.specs.Lexemes.{is_open, is_close, is_comma, is_name}
+use Rattle.wt_grammar.specs.Kinds.{is_and, is_or, is_not, is_select, is_distinct, is_all, is_from, is_where, is_between, is_is, is_null_word, is_in, is_as, is_inner, is_left, is_right, is_outer, is_join, is_on, is_dot, is_star, begins_join}
 use Rattle.wt_grammar.specs.Refusals.{beyond}
-use Rattle.wt_grammar.specs.declared.lexeme.Stage.TheVariants as stage
-use Rattle.wt_grammar.specs.Reading.{cmp_of, next_stage}
+use Rattle.wt_sentence.proofs.Stages.{next_stage, behind_name, behind_column}
+use Rattle.wt_grammar.specs.Reading.{cmp_of}
 
 pub and_is : (k : Kind) → is_and k ≡ true → k ≡ Key word.And
 and_is (Key word.And) h = refl
@@ -70,6 +71,10 @@ pub left_is : (k : Kind) → is_left k ≡ true → k ≡ Key word.Left
 left_is (Key word.Left) h = refl
 left_is _ h = absurd cc
 
+pub right_is : (k : Kind) → is_right k ≡ true → k ≡ Key word.Right
+right_is (Key word.Right) h = refl
+right_is _ h = absurd cc
+
 pub outer_is : (k : Kind) → is_outer k ≡ true → k ≡ Key word.Outer
 outer_is (Key word.Outer) h = refl
 outer_is _ h = absurd cc
@@ -106,12 +111,13 @@ pub name_is : (k : Kind) → is_name k ≡ true → k ≡ Name
 name_is Name h = refl
 name_is _ h = absurd cc
 
--- a join that begins with no JOIN and no INNER begins with LEFT
-pub left_begins : (k : Kind) → begins_join k ≡ true → is_join k ≡ false → is_inner k ≡ false → is_left k ≡ true
-left_begins (Key word.Left) h p q = refl
-left_begins (Key word.Join) h p q = absurd cc
-left_begins (Key word.Inner) h p q = absurd cc
-left_begins _ h p q = absurd cc
+-- a join that begins with no JOIN and no INNER begins with LEFT or RIGHT
+pub right_begins : (k : Kind) → begins_join k ≡ true → is_join k ≡ false → is_inner k ≡ false → is_left k ≡ false → is_right k ≡ true
+right_begins (Key word.Right) h p q r = refl
+right_begins (Key word.Left) h p q r = absurd cc
+right_begins (Key word.Join) h p q r = absurd cc
+right_begins (Key word.Inner) h p q r = absurd cc
+right_begins _ h p q r = absurd cc
 
 -- What may stand behind an operand, an item, a table or an alias.
 pub record Plain (k : Kind) : Type 0 where
@@ -127,14 +133,19 @@ pub record EndsCond (k : Kind) : Type 0 where
   pub not_and : is_and k ≡ false
   pub not_or : is_or k ≡ false
 
--- what may stand behind FROM and its joins
+-- what may stand behind a chain of joins
 pub record EndsFrom (k : Kind) : Type 0 where
   pub cond : EndsCond k
   pub not_join : begins_join k ≡ false
 
+-- what may stand behind FROM and its list
+pub record EndsList (k : Kind) : Type 0 where
+  pub from : EndsFrom k
+  pub not_comma : is_comma k ≡ false
+
 -- what may stand behind a query
 pub record EndsQuery (k : Kind) : Type 0 where
-  pub from : EndsFrom k
+  pub list : EndsList k
   pub not_where : is_where k ≡ false
 
 pub and_plain : (k : Kind) → is_and k ≡ true → Plain k
@@ -180,13 +191,16 @@ pub comma_plain : (k : Kind) → is_comma k ≡ true → Plain k
 comma_plain k h = subst Plain (sym (comma_is k h)) record { not_dot = refl; not_open = refl; not_as = refl; not_name = refl; not_beyond = refl }
 
 pub end_query : EndsQuery End
-end_query = record { from = record { cond = record { plain = record { not_dot = refl; not_open = refl; not_as = refl; not_name = refl; not_beyond = refl }; not_and = refl; not_or = refl }; not_join = refl }; not_where = refl }
+end_query = record { list = record { from = record { cond = record { plain = record { not_dot = refl; not_open = refl; not_as = refl; not_name = refl; not_beyond = refl }; not_and = refl; not_or = refl }; not_join = refl }; not_comma = refl }; not_where = refl }
 
 pub close_query : (k : Kind) → is_close k ≡ true → EndsQuery k
-close_query k h = subst EndsQuery (sym (close_is k h)) (record { from = record { cond = record { plain = record { not_dot = refl; not_open = refl; not_as = refl; not_name = refl; not_beyond = refl }; not_and = refl; not_or = refl }; not_join = refl }; not_where = refl })
+close_query k h = subst EndsQuery (sym (close_is k h)) (record { list = record { from = record { cond = record { plain = record { not_dot = refl; not_open = refl; not_as = refl; not_name = refl; not_beyond = refl }; not_and = refl; not_or = refl }; not_join = refl }; not_comma = refl }; not_where = refl })
 
-pub where_from : (k : Kind) → is_where k ≡ true → EndsFrom k
-where_from k h = subst EndsFrom (sym (where_is k h)) (record { cond = record { plain = record { not_dot = refl; not_open = refl; not_as = refl; not_name = refl; not_beyond = refl }; not_and = refl; not_or = refl }; not_join = refl })
+pub where_list : (k : Kind) → is_where k ≡ true → EndsList k
+where_list k h = subst EndsList (sym (where_is k h)) (record { from = record { cond = record { plain = record { not_dot = refl; not_open = refl; not_as = refl; not_name = refl; not_beyond = refl }; not_and = refl; not_or = refl }; not_join = refl }; not_comma = refl })
+
+pub comma_from : (k : Kind) → is_comma k ≡ true → EndsFrom k
+comma_from k h = subst EndsFrom (sym (comma_is k h)) (record { cond = record { plain = record { not_dot = refl; not_open = refl; not_as = refl; not_name = refl; not_beyond = refl }; not_and = refl; not_or = refl }; not_join = refl })
 
 pub or_not_and : (k : Kind) → is_or k ≡ true → is_and k ≡ false
 or_not_and k h = ap is_and (or_is k h)
@@ -195,6 +209,7 @@ pub joins_cond : (k : Kind) → begins_join k ≡ true → EndsCond k
 joins_cond (Key word.Join) h = record { plain = record { not_dot = refl; not_open = refl; not_as = refl; not_name = refl; not_beyond = refl }; not_and = refl; not_or = refl }
 joins_cond (Key word.Inner) h = record { plain = record { not_dot = refl; not_open = refl; not_as = refl; not_name = refl; not_beyond = refl }; not_and = refl; not_or = refl }
 joins_cond (Key word.Left) h = record { plain = record { not_dot = refl; not_open = refl; not_as = refl; not_name = refl; not_beyond = refl }; not_and = refl; not_or = refl }
+joins_cond (Key word.Right) h = record { plain = record { not_dot = refl; not_open = refl; not_as = refl; not_name = refl; not_beyond = refl }; not_and = refl; not_or = refl }
 joins_cond _ h = absurd cc
 
 -- a comparison is no other word behind an operand
@@ -211,8 +226,8 @@ cmp_tests _ w h = absurd cc
 -- what stands directly behind an operand: no column goes on with it, and no parenthesis closes
 pub record Front (k : Kind) : Type 0 where
   pub plain : Plain k
-  pub no_name : next_stage stage.BehindName k ≡ None
-  pub no_column : next_stage stage.BehindColumn k ≡ None
+  pub no_name : next_stage behind_name k ≡ None
+  pub no_column : next_stage behind_column k ≡ None
   pub not_close : is_close k ≡ false
 
 pub between_front : (k : Kind) → is_between k ≡ true → Front k

@@ -1,5 +1,6 @@
-pub mod Inversions
+pub mod Stages
 pub mod Took
+pub mod Chains
 pub mod SoundParts
 pub mod SoundQueries
 pub mod Sound
@@ -8,3 +9,5 @@ pub mod Tuples
 pub mod CompleteParts
 pub mod CompleteQueries
 pub mod Complete
+pub mod Forming
+pub mod LawfulFiles

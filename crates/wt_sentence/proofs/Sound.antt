@@ -6,16 +6,20 @@ use Rattle.wt_lex.specs.declared.token.Token.{Token}
 use Rattle.wt_lex.specs.declared.token.TokenKind.{TokenKind}
 use Rattle.wt_lex.specs.declared.token.TokenKind.TheVariants as kinds
 use Rattle.wt_ast.specs.Tree.{QueryTree, negated}
-use Rattle.wt_grammar.specs.declared.lexeme.Word.{Word}
-use Rattle.wt_grammar.specs.Words.{lexeme, kind_by, keyword}
-use Rattle.wt_grammar.specs.Lexemes.{Tokens, kind, place, is_not, is_select, is_end}
+use Rattle.wt_lex.specs.declared.words.Word.{Word}
+use Rattle.wt_reading.specs.Lexemes.{lexeme, kind_by}
+use Rattle.wt_lex.specs.Names.{keyword}
+use Rattle.wt_reading.specs.Lexemes.{Tokens, kind, place, is_end}
+use Rattle.wt_grammar.specs.Kinds.{is_not, is_select}
 use Rattle.wt_grammar.specs.Refusals.{syntax, no_join}
 use Rattle.wt_grammar.specs.Reading as read
-use Rattle.wt_grammar.specs.Reading.{Read, plus, no_query_end}
-use Rattle.wt_sentence.specs.Grammar.{Seq, Is, IsAt, Parens, deeper}
+use Rattle.wt_reading.specs.Readings.{plus}
+use Rattle.wt_grammar.specs.Reading.{Read, refusal, no_query_end}
+use Rattle.wt_reading.specs.Sentences.{Seq, Is, IsAt}
+use Rattle.wt_sentence.specs.Grammar.{deeper}
 use Rattle.wt_sentence.specs.Grammar as spec
-use Rattle.wt_sentence.proofs.Inversions.{held, ok_parts, plus_ok, followed_ok, last_ok}
-use Rattle.wt_sentence.proofs.Took.{Took, took_then, took_as, took_one, took_is, some_seq, some_one, within_at, behind_front}
+use Rattle.wt_reading.proofs.Inversions.{held, ok_parts, plus_ok, followed_ok, last_ok}
+use Rattle.wt_reading.proofs.Took.{Took, took_then, took_as, took_one, took_is, some_seq, some_one, within_at, behind_front}
 use Rattle.wt_sentence.proofs.SoundQueries.{SoundBelow, neg_sound, cond_sound, joined_sound, body_sound}
 
 module _ (end : ℕ) (bytes : List ℕ) where
@@ -40,15 +44,15 @@ module _ (end : ℕ) (bytes : List ℕ) where
             took_as (Seq (IsAt is_not (place end ts)) (spec.Neg end bytes (deeper end bytes l) x)) ((deeper end bytes (suc l)).negs c) ts n n (λ a z. (place end ts, x, z, f)) refl
             (took_then (IsAt is_not (place end ts)) (spec.Neg end bytes (deeper end bytes l) x) ts 1 j n (took_one is_not end ts refl is)
             (neg_sound end bytes (read.nest end bytes l) (deeper end bytes l) below (drop 1 ts) x j e') s);
-        conds = λ ts c n is h. within_at (spec.Cond end bytes (deeper end bytes l)) (read.cond end bytes (read.nest end bytes l)) end (λ _. syntax) ts c n is
+        conds = λ ts c n is h. within_at (spec.Cond end bytes (deeper end bytes l)) (read.cond end bytes (read.nest end bytes l)) (λ _. refusal end syntax) ts c n is
             (λ y m e. cond_sound end bytes (read.nest end bytes l) (deeper end bytes l) below (drop 1 ts) y m e) h;
-        queries = λ ts q n is si h. within_at (λ q. Seq (Is is_select) (spec.Body end bytes (deeper end bytes l) q)) (λ ts. plus 1 (read.body end bytes (read.nest end bytes l) (drop 1 ts))) end no_query_end ts q n is
+        queries = λ ts q n is si h. within_at (λ q. Seq (Is is_select) (spec.Body end bytes (deeper end bytes l) q)) (λ ts. plus 1 (read.body end bytes (read.nest end bytes l) (drop 1 ts))) (λ q. refusal end (no_query_end q)) ts q n is
             (λ y m e.
             let (j, e', s) = plus_ok 1 _ y m e in
             took_then (Is is_select) (spec.Body end bytes (deeper end bytes l) y) (drop 1 ts) 1 j m (took_is is_select (drop 1 ts) refl si)
             (body_sound end bytes (read.nest end bytes l) (deeper end bytes l) below (drop 1 (drop 1 ts)) y j e') s) h;
-        froms = λ ts f n is h. within_at (spec.Joined end bytes (deeper end bytes l)) (read.joined end bytes (read.nest end bytes l)) end (λ _. no_join) ts f n is
-            (λ y m e. joined_sound end bytes (read.nest end bytes l) (deeper end bytes l) below (drop 1 ts) y m e) h;
+        froms = λ ts f n is h. within_at (spec.Joined end bytes (deeper end bytes l)) (read.joined end bytes (read.nest end bytes l) true) (λ _. refusal end (no_join true)) ts f n is
+            (λ y m e. joined_sound end bytes (read.nest end bytes l) (deeper end bytes l) below true (drop 1 ts) y m e) h;
         there = λ q a z. some_seq _ _ (λ b y. some_one _ b y) a z;
       }
 

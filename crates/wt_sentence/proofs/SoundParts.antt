@@ -9,17 +9,20 @@ use Rattle.wt_lex.specs.declared.token.LexFault.TheVariants.{NumberRange}
 use Rattle.wt_ast.specs.declared.tree.Item.TheVariants as items
 use Rattle.wt_ast.specs.declared.tree.Scalar.{Scalar}
 use Rattle.wt_ast.specs.declared.tree.Scalar.TheVariants as scalar
-use Rattle.wt_grammar.specs.declared.lexeme.Kind.{Kind}
-use Rattle.wt_grammar.specs.declared.lexeme.Kind.TheVariants.{End, Number, Text, Mark}
-use Rattle.wt_grammar.specs.declared.lexeme.Lexeme.{Lexeme}
+use Rattle.wt_reading.specs.declared.lexeme.Kind.{Kind}
+use Rattle.wt_reading.specs.declared.lexeme.Kind.TheVariants.{End, Number, Text, Mark}
+use Rattle.wt_reading.specs.declared.lexeme.Lexeme.{Lexeme}
 use Rattle.wt_grammar.specs.declared.fault.QueryFault.{QueryFault}
-use Rattle.wt_grammar.specs.Lexemes.{Tokens, kind, place, is_name, is_open, is_dot, is_star, is_as}
+use Rattle.wt_reading.specs.Lexemes.{Tokens, kind, place, is_name, is_open}
+use Rattle.wt_grammar.specs.Kinds.{is_dot, is_star, is_as}
 use Rattle.wt_grammar.specs.Refusals.{beyond}
-use Rattle.wt_grammar.specs.Reading.{Read, Refusal, odd, followed, name, column, operand, operand_by, literal, literal_by, alias, item, item_front, ended, ended_by, unsigned, negative, negative_by, listed_negative, name_at, text_at, name_only}
-use Rattle.wt_sentence.specs.Grammar.{Seq, One, Is, IsAt, Column, Literal, AnyLiteral, Operand, Named, Alias, IsItem}
+use Rattle.wt_reading.specs.Readings.{followed}
+use Rattle.wt_grammar.specs.Reading.{Read, Refusal, odd, name, column, operand, operand_by, literal, literal_by, alias, item, item_front, ended, ended_by, unsigned, negative, negative_by, listed_negative, name_at, text_at, name_only}
+use Rattle.wt_reading.specs.Sentences.{Seq, Is, IsAt}
+use Rattle.wt_sentence.specs.Grammar.{Column, Literal, AnyLiteral, Operand, Named, Alias, IsItem}
 use Rattle.wt_sentence.specs.Grammar as spec
-use Rattle.wt_sentence.proofs.Inversions.{chosen, held, ok_parts, plus_ok, followed_ok, last_ok}
-use Rattle.wt_sentence.proofs.Took.{Took, Sound, took_none, took_then, took_as, took_one, took_is}
+use Rattle.wt_reading.proofs.Inversions.{chosen, held, ok_parts, plus_ok, followed_ok, last_ok}
+use Rattle.wt_reading.proofs.Took.{Took, Sound, took_none, took_then, took_as, took_one, took_is}
 
 -- a value that nothing follows that its place never has
 pub ended_ok : {A : Type 0} (end : ℕ) (ts : Tokens) (r : Read A) (x : A) (n : ℕ) → ended end ts r ≡ Ok (x, n) → r ≡ Ok (x, n)

@@ -1,23 +1,30 @@
 -- What is read is a sentence: conditions, FROM and queries.
-use Rattle.std.proofs.Common.{◌≡◌, ℕ, suc, zero, ◌+◌, ◌-◌, ◌≤◌, length-drop, ◌⊎◌, inl, inr, Bool, true, false, List, [], ◌∷◌, length, drop, refl, ap, sym, ◌∙◌, arith, Ok, Err, Option, Some, None, subst}
+use Rattle.std.proofs.Common.{◌≡◌, ℕ, ◌+◌, ◌≤◌, inl, inr, Bool, true, false, List, [], ◌∷◌, length, drop, refl, ap, sym, ◌∙◌, arith, Ok, Err, Option, Some, None, subst}
 use Rattle.std.specs.Prelude.{if◌then◌else◌}
 use Rattle.wt_value.specs.declared.value.Value.{Value}
 use Rattle.wt_ast.specs.declared.tree.ColumnName.{ColumnName}
 use Rattle.wt_ast.specs.declared.tree.CmpWord.{CmpWord}
 use Rattle.wt_ast.specs.declared.tree.Scalar.{Scalar}
 use Rattle.wt_ast.specs.declared.tree.Scalar.TheVariants as scalar
-use Rattle.wt_ast.specs.Tree.{QueryTree, FromTree, CondTree, select, no_filter, filter_by, table, derived, compare, is_null, is_not_null, in_list, in_query, all_of, any_of, negated}
-use Rattle.wt_grammar.specs.declared.lexeme.JoinKind.{JoinKind}
-use Rattle.wt_grammar.specs.declared.lexeme.JoinKind.TheVariants as joining
-use Rattle.wt_grammar.specs.Lexemes.{Tokens, kind, place, is_and, is_or, is_not, is_select, is_distinct, is_all, is_from, is_where, is_between, is_is, is_null_word, is_in, is_as, is_inner, is_left, is_outer, is_join, is_on, is_open, is_name, begins_join}
+use Rattle.wt_ast.specs.Tree.{QueryTree, FromTree, CondTree, select, no_filter, filter_by, table, derived, comma, compare, is_null, is_not_null, in_list, in_query, all_of, any_of, negated}
+use Rattle.wt_grammar.specs.declared.join.JoinKind.{JoinKind}
+use Rattle.wt_grammar.specs.declared.join.JoinKind.TheVariants as joining
+use Rattle.wt_reading.specs.declared.lexeme.Kind.{Kind}
+use Rattle.wt_reading.specs.declared.lexeme.Kind.TheVariants.{End}
+use Rattle.wt_reading.specs.Lexemes.{Tokens, kind, place, at, is_open, is_name, is_comma}
+use Rattle.wt_grammar.specs.Kinds.{is_and, is_or, is_not, is_select, is_distinct, is_all, is_from, is_where, is_between, is_is, is_null_word, is_in, is_as, is_inner, is_left, is_right, is_outer, is_join, is_on, begins_join}
 use Rattle.wt_grammar.specs.Refusals.{syntax, no_join}
 use Rattle.wt_grammar.specs.Reading as read
-use Rattle.wt_grammar.specs.Reading.{Read, Refusal, Nest, plus, followed, expect, cmp_of, between_of, join_of, name_only, place_or, opens_tuple, no_query_end}
-use Rattle.wt_sentence.specs.Grammar.{Seq, One, Is, IsAt, Behind, Listed, Parens, Run, Column, AnyLiteral, Operand, Named, Alias, IsItem, Deeper}
+use Rattle.wt_reading.specs.Readings.{plus, followed, expect, list}
+use Rattle.wt_grammar.specs.Reading.{Read, Refusal, refusal, Nest, cmp_of, between_of, join_of, name_only, place_or, opens_tuple, no_query_end}
+use Rattle.wt_reading.specs.Sentences.{Seq, One, Is, IsAt, Listed, Parens}
+use Rattle.wt_sentence.specs.Grammar.{Run, Column, AnyLiteral, Operand, Named, Alias, IsItem, Chain, Deeper}
 use Rattle.wt_sentence.specs.Grammar as spec
-use Rattle.wt_sentence.proofs.Follows.{left_begins}
-use Rattle.wt_sentence.proofs.Inversions.{chosen, held, ok_parts, plus_ok, followed_ok, last_ok}
-use Rattle.wt_sentence.proofs.Took.{Took, Sound, There, took_none, took_then, took_as, took_one, took_is, took_begin, some_seq, some_one, expected, list_sound, within_at, run_sound}
+use Rattle.wt_sentence.proofs.Follows.{right_begins}
+use Rattle.wt_sentence.proofs.Chains.{chain_sound}
+use Rattle.wt_reading.proofs.Inversions.{chosen, held, ok_parts, plus_ok, followed_ok, last_ok}
+use Rattle.wt_reading.proofs.Took.{Took, Sound, There, took_none, took_then, took_as, took_one, took_is, took_begin, some_seq, some_one, expected, list_sound, within_at}
+use Rattle.wt_sentence.proofs.Took.{run_sound}
 use Rattle.wt_sentence.proofs.SoundParts.{column_sound, operand_sound, literal_sound, any_name_sound, name_sound, alias_sound, item_sound, named}
 
 -- what is read one level deeper is a sentence one level deeper
@@ -37,18 +44,18 @@ module _ (end : ℕ) (bytes : List ℕ) where
   operand_there x a (inr (v, at, inr (inl p), f)) = some_one _ a p
   operand_there x a (inr (v, at, inr (inr (n, p, b, e)), f)) = some_seq _ _ (λ b z. some_one _ b z) a p
 
-  between_sound : (at : ℕ) (x : Scalar) (ts : Tokens) (c : CondTree) (n k : ℕ) → is_between (kind ts) ≡ true
-      → read.between end bytes at x (place end ts) (drop 1 ts) ≡ Ok (c, n) → k ≡ 1 + n → (d : Deeper) → Took (spec.Between end bytes d at x c) ts k
+  between_sound : (begin : ℕ) (x : Scalar) (ts : Tokens) (c : CondTree) (n k : ℕ) → is_between (kind ts) ≡ true
+      → read.between end bytes begin x (place end ts) (drop 1 ts) ≡ Ok (c, n) → k ≡ 1 + n → (d : Deeper) → Took (spec.Between end bytes d begin x c) ts k
   unfolding read.between
-  between_sound at x ts c n k is h s d =
+  between_sound begin x ts c n k is h s d =
       let (low, m, j, r, q, e) = followed_ok (drop 1 ts) (read.operand end bytes (drop 1 ts)) _ c n h in
       let l1 = drop m (drop 1 ts) in
-      let (u, m', j', r', q', e') = followed_ok l1 (expect end is_and syntax l1) _ c j q in
-      let (word, one) = expected is_and syntax end l1 u m' r' in
-      let (high, r'', f) = last_ok (drop m' l1) (read.operand end bytes (drop m' l1)) (λ high. between_of at x low high (place end ts)) c j' q' in
+      let (u, m', j', r', q', e') = followed_ok l1 (expect (at is_and) (refusal end syntax) l1) _ c j q in
+      let (word, one) = expected (at is_and) (refusal end syntax) l1 u m' r' in
+      let (high, r'', f) = last_ok (drop m' l1) (read.operand end bytes (drop m' l1)) (λ high. between_of begin x low high (place end ts)) c j' q' in
       let parts = took_then (Is is_and) (Operand end bytes high) l1 1 j' (1 + j') (took_is is_and l1 refl word)
       (subst (λ z. Took (Operand end bytes high) (drop z l1) j') one (operand_sound end bytes (drop m' l1) high j' r'')) refl in
-      took_as (Seq (IsAt is_between (place end ts)) (Seq (Operand end bytes low) (Seq (Is is_and) (Operand end bytes high)))) (spec.Between end bytes d at x c) ts k k
+      took_as (Seq (IsAt is_between (place end ts)) (Seq (Operand end bytes low) (Seq (Is is_and) (Operand end bytes high)))) (spec.Between end bytes d begin x c) ts k k
       (λ a p. (place end ts, low, high, p, f)) refl
       (took_then (IsAt is_between (place end ts)) (Seq (Operand end bytes low) (Seq (Is is_and) (Operand end bytes high))) ts 1 n k (took_one is_between end ts refl is)
       (took_then (Operand end bytes low) (Seq (Is is_and) (Operand end bytes high)) (drop 1 ts) m (1 + j') n (operand_sound end bytes (drop 1 ts) low m r) parts (omega arith)) s)
@@ -59,7 +66,7 @@ module _ (end : ℕ) (bytes : List ℕ) where
     unfolding read.listed
     listed_sound Part part part_sound ts xs n opens h =
         let (room, h') = held ns.room _ _ xs n h in
-        (below.room room, within_at (Listed Part) (read.list part) end (λ _. syntax) ts xs n opens (λ ys m e. list_sound Part part part_sound (drop 1 ts) ys m e) h')
+        (below.room room, within_at (Listed Part) (list part) (λ _. refusal end syntax) ts xs n opens (λ ys m e. list_sound Part part part_sound (drop 1 ts) ys m e) h')
 
     values_sound : (at : ℕ) (k : ColumnName) (word : ℕ) (ts : Tokens) (c : CondTree) (n : ℕ) → is_open (kind ts) ≡ true → read.values end bytes ns at k word ts ≡ Ok (c, n)
         → (vs : List Value) × Took (spec.Values end bytes d vs) ts n × (c ≡ in_list at k vs word)
@@ -86,23 +93,23 @@ module _ (end : ℕ) (bytes : List ℕ) where
               (took_then (IsAt is_in (place end ts)) (spec.Values end bytes d vs) ts 1 m n (took_one is_in end ts refl is) took s)
         ]
 
-    is_sound : (at : ℕ) (k : ColumnName) (ts : Tokens) (c : CondTree) (m n : ℕ) → is_is (kind ts) ≡ true → read.is_part end at k (drop 1 ts) ≡ Ok (c, m) → n ≡ 1 + m
-        → Took (spec.OfColumn end bytes d at k c) ts n
+    is_sound : (begin : ℕ) (k : ColumnName) (ts : Tokens) (c : CondTree) (m n : ℕ) → is_is (kind ts) ≡ true → read.is_part end begin k (drop 1 ts) ≡ Ok (c, m) → n ≡ 1 + m
+        → Took (spec.OfColumn end bytes d begin k c) ts n
     unfolding read.is_part
-    is_sound at k ts c m n is h s =
+    is_sound begin k ts c m n is h s =
         elim (chosen (is_not (kind (drop 1 ts))) _ _ _ h) [
           | inl p ↦
               let (j, e, s') = plus_ok 1 _ c m p.1 in
               let l = drop 1 (drop 1 ts) in
-              let (u, e', f) = last_ok l (expect end is_null_word syntax l) (λ _. is_not_null at k) c j e in
-              let (null, one) = expected is_null_word syntax end l u j e' in
-              took_as (Seq (Is is_is) (Seq (Is is_not) (Is is_null_word))) (spec.OfColumn end bytes d at k c) ts n n (λ a z. inr (inl (z, f))) refl
+              let (u, e', f) = last_ok l (expect (at is_null_word) (refusal end syntax) l) (λ _. is_not_null begin k) c j e in
+              let (null, one) = expected (at is_null_word) (refusal end syntax) l u j e' in
+              took_as (Seq (Is is_is) (Seq (Is is_not) (Is is_null_word))) (spec.OfColumn end bytes d begin k c) ts n n (λ a z. inr (inl (z, f))) refl
               (took_then (Is is_is) (Seq (Is is_not) (Is is_null_word)) ts 1 2 n (took_is is_is ts refl is)
               (took_then (Is is_not) (Is is_null_word) (drop 1 ts) 1 1 2 (took_is is_not (drop 1 ts) refl p.0) (took_is is_null_word l refl null) refl) (omega arith))
           | inr p ↦
-              let (u, e', f) = last_ok (drop 1 ts) (expect end is_null_word syntax (drop 1 ts)) (λ _. is_null at k) c m p.1 in
-              let (null, one) = expected is_null_word syntax end (drop 1 ts) u m e' in
-              took_as (Seq (Is is_is) (Is is_null_word)) (spec.OfColumn end bytes d at k c) ts n n (λ a z. inl (z, f)) refl
+              let (u, e', f) = last_ok (drop 1 ts) (expect (at is_null_word) (refusal end syntax) (drop 1 ts)) (λ _. is_null begin k) c m p.1 in
+              let (null, one) = expected (at is_null_word) (refusal end syntax) (drop 1 ts) u m e' in
+              took_as (Seq (Is is_is) (Is is_null_word)) (spec.OfColumn end bytes d begin k c) ts n n (λ a z. inl (z, f)) refl
               (took_then (Is is_is) (Is is_null_word) ts 1 1 n (took_is is_is ts refl is) (took_is is_null_word (drop 1 ts) refl null) (omega arith))
         ]
 
@@ -332,8 +339,36 @@ module _ (end : ℕ) (bytes : List ℕ) where
               ]
         ]
 
+    join_next : (l : Tokens) (k' k : JoinKind) (j : ℕ) → followed l (expect (at is_join) (refusal end syntax) l) (λ _ rest. Ok (k', 0)) ≡ Ok (k, j) → Took (Is is_join) l j × (k ≡ k')
+    join_next l k' k j e =
+        let (u, e', f) = last_ok l (expect (at is_join) (refusal end syntax) l) (λ _. k') k j e in
+        let (is, one) = expected (at is_join) (refusal end syntax) l u j e' in
+        (took_as (Is is_join) (Is is_join) l 1 j (λ a z. z) (sym one) (took_is is_join l refl is), f)
+
+    -- LEFT or RIGHT, OUTER if it is written, and JOIN
+    outer_sound : (side : Kind → Bool) (made : JoinKind) (ts : Tokens) (k : JoinKind) (j n : ℕ) → side End ≡ false → side (kind ts) ≡ true → read.outer_join end made (drop 1 ts) ≡ Ok (k, j) → n ≡ 1 + j
+        → Took (spec.Outer end bytes d side) ts n × (k ≡ made)
+    unfolding read.outer_join
+    outer_sound side made ts k j n none is e s =
+        elim (chosen (is_outer (kind (drop 1 ts))) _ _ _ e) [
+          | inl r ↦
+              let (i, e', s') = plus_ok 1 _ k j r.1 in
+              let (m, f) = join_next (drop 1 (drop 1 ts)) made k i e' in (
+                took_as (Seq (Is side) (Seq (Is is_outer) (Is is_join))) (spec.Outer end bytes d side) ts n n (λ a z. inr z) refl
+                    (took_then (Is side) (Seq (Is is_outer) (Is is_join)) ts 1 j n (took_is side ts none is)
+                    (took_then (Is is_outer) (Is is_join) (drop 1 ts) 1 i j (took_is is_outer (drop 1 ts) refl r.0) m s') s),
+                f,
+              )
+          | inr r ↦
+              let (m, f) = join_next (drop 1 ts) made k j r.1 in (
+                took_as (Seq (Is side) (Is is_join)) (spec.Outer end bytes d side) ts n n (λ a z. inl z) refl
+                    (took_then (Is side) (Is is_join) ts 1 j n (took_is side ts none is) m s),
+                f,
+              )
+        ]
+
     pub words_sound : (ts : Tokens) (k : JoinKind) (n : ℕ) → begins_join (kind ts) ≡ true → read.join_words end ts ≡ Ok (k, n) → Took (spec.JoinWords end bytes d k) ts n
-    unfolding read.join_words read.outer_join
+    unfolding read.join_words
     words_sound ts k n begins h =
         elim (chosen (is_join (kind ts)) _ _ _ h) [
           | inl p ↦
@@ -345,39 +380,28 @@ module _ (end : ℕ) (bytes : List ℕ) where
                 let (m, f) = join_next (drop 1 ts) joining.Inner k j e in
                 took_as (Seq (Is is_inner) (Is is_join)) (spec.JoinWords end bytes d k) ts n n (λ a z. inr (inl (z, f))) refl
                 (took_then (Is is_inner) (Is is_join) ts 1 j n (took_is is_inner ts refl q.0) m s)
-            | inr q ↦
-                let (j, e, s) = plus_ok 1 _ k n q.1 in
-                let left = left_begins (kind ts) begins p.0 q.0 in
-                elim (chosen (is_outer (kind (drop 1 ts))) _ _ _ e) [
-                  | inl r ↦
-                      let (i, e', s') = plus_ok 1 _ k j r.1 in
-                      let (m, f) = join_next (drop 1 (drop 1 ts)) joining.Left k i e' in
-                      took_as (Seq (Is is_left) (Seq (Is is_outer) (Is is_join))) (spec.JoinWords end bytes d k) ts n n (λ a z. inr (inr (inr (z, f)))) refl
-                      (took_then (Is is_left) (Seq (Is is_outer) (Is is_join)) ts 1 j n (took_is is_left ts refl left)
-                      (took_then (Is is_outer) (Is is_join) (drop 1 ts) 1 i j (took_is is_outer (drop 1 ts) refl r.0) m s') s)
-                  | inr r ↦
-                      let (m, f) = join_next (drop 1 ts) joining.Left k j r.1 in
-                      took_as (Seq (Is is_left) (Is is_join)) (spec.JoinWords end bytes d k) ts n n (λ a z. inr (inr (inl (z, f)))) refl
-                      (took_then (Is is_left) (Is is_join) ts 1 j n (took_is is_left ts refl left) m s)
-                ]
+            | inr q ↦ elim (chosen (is_left (kind ts)) _ _ _ q.1) [
+              | inl r ↦
+                  let (j, e, s) = plus_ok 1 _ k n r.1 in
+                  let (m, f) = outer_sound is_left joining.Left ts k j n refl r.0 e s in
+                  took_as (spec.Outer end bytes d is_left) (spec.JoinWords end bytes d k) ts n n (λ a z. inr (inr (inl (z, f)))) refl m
+              | inr r ↦
+                  let (j, e, s) = plus_ok 1 _ k n r.1 in
+                  let (m, f) = outer_sound is_right joining.Right ts k j n refl (right_begins (kind ts) begins p.0 q.0 r.0) e s in
+                  took_as (spec.Outer end bytes d is_right) (spec.JoinWords end bytes d k) ts n n (λ a z. inr (inr (inr (z, f)))) refl m
+            ]
           ]
         ]
-      where
-        join_next : (l : Tokens) (k' k : JoinKind) (j : ℕ) → followed l (expect end is_join syntax l) (λ _ rest. Ok (k', 0)) ≡ Ok (k, j) → Took (Is is_join) l j × (k ≡ k')
-        join_next l k' k j e =
-            let (u, e', f) = last_ok l (expect end is_join syntax l) (λ _. k') k j e in
-            let (is, one) = expected is_join syntax end l u j e' in
-            (took_as (Is is_join) (Is is_join) l 1 j (λ a z. z) (sym one) (took_is is_join l refl is), f)
 
-    pub join_sound : (a : FromTree) (ts : Tokens) (f : FromTree) (n : ℕ) → begins_join (kind ts) ≡ true → read.join end bytes ns a ts ≡ Ok (f, n) → Took (spec.Join end bytes d a f) ts n
+    pub join_sound : (inside : Bool) (a : FromTree) (ts : Tokens) (f : FromTree) (n : ℕ) → begins_join (kind ts) ≡ true → read.join end bytes ns inside a ts ≡ Ok (f, n) → Took (spec.Join end bytes d a f) ts n
     unfolding read.join
-    join_sound a ts f n begins h =
+    join_sound inside a ts f n begins h =
         let (k, m, j, e, r, s) = followed_ok ts (read.join_words end ts) _ f n h in
         let l1 = drop m ts in
         let (b, m1, j1, e1, r1, s1) = followed_ok l1 (read.primary end bytes ns l1) _ f j r in
         let l2 = drop m1 l1 in
-        let (u, m2, j2, e2, r2, s2) = followed_ok l2 (expect end is_on no_join l2) _ f j1 r1 in
-        let (on, one) = expected is_on no_join end l2 u m2 e2 in
+        let (u, m2, j2, e2, r2, s2) = followed_ok l2 (expect (at is_on) (refusal end (no_join inside)) l2) _ f j1 r1 in
+        let (on, one) = expected (at is_on) (refusal end (no_join inside)) l2 u m2 e2 in
         let l3 = drop m2 l2 in
         let (c, e3, is) = last_ok l3 (read.cond end bytes ns l3) (λ c. join_of k a b c (place end l2)) f j2 r2 in
         took_as (Seq (spec.JoinWords end bytes d k) (Seq (spec.Primary end bytes d b) (Seq (IsAt is_on (place end l2)) (spec.Cond end bytes d c)))) (spec.Join end bytes d a f) ts n n
@@ -387,70 +411,53 @@ module _ (end : ℕ) (bytes : List ℕ) where
         (took_then (IsAt is_on (place end l2)) (spec.Cond end bytes d c) l2 1 j2 j1 (took_one is_on end l2 refl on)
         (subst (λ z. Took (spec.Cond end bytes d c) (drop z l2) j2) one (cond_sound l3 c j2 e3)) (s2 ∙ ap (λ z. z + j2) one)) s1) s)
 
-    joins_skip : (a : FromTree) (k : ℕ) (ts : Tokens) → read.joins end bytes ns a k ts ≡ read.joins end bytes ns a 0 (drop k ts)
-    unfolding read.joins
-    joins_skip a zero ts = refl
-    joins_skip a (suc k) [] = refl
-    joins_skip a (suc k) (t ∷ ts) = joins_skip a k ts
-
     -- a join has a token or more
     pub join_some : (a g : FromTree) (l : Tokens) (k : ℕ) → Took (spec.Join end bytes d a g) l k → 1 ≤ k
     join_some a g l k (b, c, e, s, (w, b', on, cc', p, is)) =
         let (u, r, e') = some_seq _ _ (words_there w) b p in
         omega (arith, ap length e', s)
       where
+        outer_there : (side : Kind → Bool) (l : Tokens) → spec.Outer end bytes d side l → There l
+        outer_there side l (inl p) = some_seq _ _ (λ b y. some_one _ b y) l p
+        outer_there side l (inr p) = some_seq _ _ (λ b y. some_one _ b y) l p
+
         words_there : (k : JoinKind) (l : Tokens) → spec.JoinWords end bytes d k l → There l
         words_there k l (inl (p, e)) = some_one _ l p
         words_there k l (inr (inl (p, e))) = some_seq _ _ (λ b y. some_one _ b y) l p
-        words_there k l (inr (inr (inl (p, e)))) = some_seq _ _ (λ b y. some_one _ b y) l p
-        words_there k l (inr (inr (inr (p, e)))) = some_seq _ _ (λ b y. some_one _ b y) l p
+        words_there k l (inr (inr (inl (p, e)))) = outer_there is_left l p
+        words_there k l (inr (inr (inr (p, e)))) = outer_there is_right l p
 
-    -- joins are so many joins, each of one token or more
-    joins_sound : (bound : ℕ) (a : FromTree) (ts : Tokens) (f : FromTree) (n : ℕ) → length ts ≤ bound → read.joins end bytes ns a 0 ts ≡ Ok (f, n)
-        → (m : ℕ) × Took (spec.Joins end bytes d m a f) ts n
-    unfolding read.joins
-    joins_sound bound a [] f n h e =
-        let (same, s) = ok_parts a f 0 n e in
-        (0, took_as (λ l. l ≡ []) (spec.Joins end bytes d 0 a f) [] 0 n (λ l z. (z, sym same)) s (took_none []))
-    joins_sound zero a (t ∷ ts) f n h e = absurd (omega arith)
-    joins_sound (suc bound) a (t ∷ ts) f n h e =
-        by (λ b g l k size r. joins_sound bound b l g k size r) (chosen (begins_join t.kind) _ _ _ e)
-      where
-        go : ((b g : FromTree) (l : Tokens) (k : ℕ) → length l ≤ bound → read.joins end bytes ns b 0 l ≡ Ok (g, k) → (m : ℕ) × Took (spec.Joins end bytes d m b g) l k)
-            → begins_join t.kind ≡ true → (r : Read FromTree) → read.join end bytes ns a (t ∷ ts) ≡ r
-            → read.chain r (read.joins end bytes ns (read.made a r) (read.taken r - 1) ts) ≡ Ok (f, n) → (m : ℕ) × Took (spec.Joins end bytes d m a f) (t ∷ ts) n
-        go ih begins (Err x) is e = absurd cc
-        go ih begins (Ok x) is e =
-            let (j, e', s) = plus_ok x.1 _ f n e in
-            let took = join_sound a (t ∷ ts) x.0 x.1 begins is in
-            let some : 1 ≤ x.1 = join_some a x.0 (t ∷ ts) x.1 took in
-            let rest : drop (x.1 - 1) ts ≡ drop x.1 (t ∷ ts) = drop_less x.1 some in
-            let fits : length (drop x.1 (t ∷ ts)) ≤ bound = omega (arith, length-drop x.1 (t ∷ ts)) in
-            let (m, q) = ih x.0 f (drop x.1 (t ∷ ts)) j fits (ap (read.joins end bytes ns x.0 0) (sym rest) ∙ sym (joins_skip x.0 (x.1 - 1) ts) ∙ e') in (
-              suc m,
-              took_as (Seq (spec.Join end bytes d a x.0) (spec.Joins end bytes d m x.0 f)) (spec.Joins end bytes d (suc m) a f) (t ∷ ts) n n (λ l z. (x.0, z)) refl
-                  (took_then (spec.Join end bytes d a x.0) (spec.Joins end bytes d m x.0 f) (t ∷ ts) x.1 j n took q s),
-            )
-          where
-            drop_less : (k : ℕ) → 1 ≤ k → drop (k - 1) ts ≡ drop k (t ∷ ts)
-            drop_less zero h = absurd (omega arith)
-            drop_less (suc k) h = let e : suc k - 1 ≡ k = omega arith in ap (λ z. drop z ts) e
-
-        by : ((b g : FromTree) (l : Tokens) (k : ℕ) → length l ≤ bound → read.joins end bytes ns b 0 l ≡ Ok (g, k) → (m : ℕ) × Took (spec.Joins end bytes d m b g) l k)
-            → ((begins_join t.kind ≡ true) × (read.chain (read.join end bytes ns a (t ∷ ts)) (read.joins end bytes ns (read.made a (read.join end bytes ns a (t ∷ ts))) (read.taken (read.join end bytes ns a (t ∷ ts)) - 1) ts) ≡ Ok (f, n)))
-            ⊎ ((begins_join t.kind ≡ false) × (◌≡◌ {A = Read FromTree} (Ok (a, 0)) (Ok (f, n)))) → (m : ℕ) × Took (spec.Joins end bytes d m a f) (t ∷ ts) n
-        by ih (inl p) = go ih p.0 (read.join end bytes ns a (t ∷ ts)) refl p.1
-        by ih (inr p) =
-            let (same, s) = ok_parts a f 0 n p.1 in
-            (0, took_as (λ l. l ≡ []) (spec.Joins end bytes d 0 a f) (t ∷ ts) 0 n (λ l z. (z, sym same)) s (took_none (t ∷ ts)))
-
-    pub joined_sound : Sound (spec.Joined end bytes d) (read.joined end bytes ns)
+    pub joined_sound : (inside : Bool) → Sound (spec.Joined end bytes d) (read.joined end bytes ns inside)
     unfolding read.joined
-    joined_sound ts f n h =
+    joined_sound inside ts f n h =
         let (a, m, j, e, r, s) = followed_ok ts (read.primary end bytes ns ts) _ f n h in
-        let (count, q) = joins_sound (length (drop m ts)) a (drop m ts) f j (omega arith) r in
-        took_as (Seq (spec.Primary end bytes d a) (spec.Joins end bytes d count a f)) (spec.Joined end bytes d f) ts n n (λ l z. (a, count, z)) refl
-        (took_then (spec.Primary end bytes d a) (spec.Joins end bytes d count a f) ts m j n (primary_sound ts a m e) q s)
+        let (count, q) = chain_sound begins_join refl (spec.Join end bytes d) (read.join end bytes ns inside) (join_sound inside) (λ a f ts n. join_some a f ts n)
+        (length (drop m ts)) a (drop m ts) f j (omega arith) r in
+        took_as (Seq (spec.Primary end bytes d a) (Chain (spec.Join end bytes d) count a f)) (spec.Joined end bytes d f) ts n n (λ l z. (a, count, z)) refl
+        (took_then (spec.Primary end bytes d a) (Chain (spec.Join end bytes d) count a f) ts m j n (primary_sound ts a m e) q s)
+
+    -- a comma and a chain of joins
+    pub listed_part_sound : (a : FromTree) (ts : Tokens) (f : FromTree) (n : ℕ) → is_comma (kind ts) ≡ true → read.listed_part end bytes ns a ts ≡ Ok (f, n) → Took (spec.ListedPart end bytes d a f) ts n
+    unfolding read.listed_part
+    listed_part_sound a ts f n is h =
+        let (j, e, s) = plus_ok 1 _ f n h in
+        let (b, e', fe) = last_ok (drop 1 ts) (read.joined end bytes ns false (drop 1 ts)) (λ b. comma a b (place end ts)) f j e in
+        took_as (Seq (IsAt is_comma (place end ts)) (spec.Joined end bytes d b)) (spec.ListedPart end bytes d a f) ts n n (λ l z. (b, place end ts, z, fe)) refl
+        (took_then (IsAt is_comma (place end ts)) (spec.Joined end bytes d b) ts 1 j n (took_one is_comma end ts refl is) (joined_sound false (drop 1 ts) b j e') s)
+
+    pub listed_part_some : (a f : FromTree) (l : Tokens) (k : ℕ) → Took (spec.ListedPart end bytes d a f) l k → 1 ≤ k
+    listed_part_some a f l k (b, c, e, s, (g, at, p, is)) =
+        let (u, r, e') = some_seq _ _ (λ m y. some_one _ m y) b p in
+        omega (arith, ap length e', s)
+
+    pub from_list_sound : Sound (spec.FromList end bytes d) (read.from_list end bytes ns)
+    unfolding read.from_list
+    from_list_sound ts f n h =
+        let (a, m, j, e, r, s) = followed_ok ts (read.joined end bytes ns false ts) _ f n h in
+        let (count, q) = chain_sound is_comma refl (spec.ListedPart end bytes d) (read.listed_part end bytes ns) listed_part_sound (λ a f ts n. listed_part_some a f ts n)
+        (length (drop m ts)) a (drop m ts) f j (omega arith) r in
+        took_as (Seq (spec.Joined end bytes d a) (Chain (spec.ListedPart end bytes d) count a f)) (spec.FromList end bytes d f) ts n n (λ l z. (a, count, z)) refl
+        (took_then (spec.Joined end bytes d a) (Chain (spec.ListedPart end bytes d) count a f) ts m j n (joined_sound false ts a m e) q s)
 
     filter_sound : Sound (spec.Filter end bytes d) (read.filter end bytes ns)
     unfolding read.filter
@@ -488,18 +495,18 @@ module _ (end : ℕ) (bytes : List ℕ) where
     body_sound ts q n h =
         let (b, m, j, e, r, s) = followed_ok ts (read.quantifier ts) _ q n h in
         let l1 = drop m ts in
-        let (xs, m1, j1, e1, r1, s1) = followed_ok l1 (read.list (read.item end bytes) l1) _ q j r in
+        let (xs, m1, j1, e1, r1, s1) = followed_ok l1 (list (read.item end bytes) l1) _ q j r in
         let l2 = drop m1 l1 in
-        let (u, m2, j2, e2, r2, s2) = followed_ok l2 (expect end is_from syntax l2) _ q j1 r1 in
-        let (from, one) = expected is_from syntax end l2 u m2 e2 in
+        let (u, m2, j2, e2, r2, s2) = followed_ok l2 (expect (at is_from) (refusal end syntax) l2) _ q j1 r1 in
+        let (from, one) = expected (at is_from) (refusal end syntax) l2 u m2 e2 in
         let l3 = drop m2 l2 in
-        let (f, m3, j3, e3, r3, s3) = followed_ok l3 (read.joined end bytes ns l3) _ q j2 r2 in
+        let (f, m3, j3, e3, r3, s3) = followed_ok l3 (read.from_list end bytes ns l3) _ q j2 r2 in
         let l4 = drop m3 l3 in
         let (w, e4, is) = last_ok l4 (read.filter end bytes ns l4) (λ w. select b xs f w) q j3 r3 in
-        took_as (Seq (spec.Quantifier end bytes d b) (Seq (Listed (IsItem end bytes) xs) (Seq (Is is_from) (Seq (spec.Joined end bytes d f) (spec.Filter end bytes d w))))) (spec.Body end bytes d q) ts n n
+        took_as (Seq (spec.Quantifier end bytes d b) (Seq (Listed (IsItem end bytes) xs) (Seq (Is is_from) (Seq (spec.FromList end bytes d f) (spec.Filter end bytes d w))))) (spec.Body end bytes d q) ts n n
         (λ a z. (b, xs, f, w, z, is)) refl
-        (took_then (spec.Quantifier end bytes d b) (Seq (Listed (IsItem end bytes) xs) (Seq (Is is_from) (Seq (spec.Joined end bytes d f) (spec.Filter end bytes d w)))) ts m j n (quantifier_sound ts b m e)
-        (took_then (Listed (IsItem end bytes) xs) (Seq (Is is_from) (Seq (spec.Joined end bytes d f) (spec.Filter end bytes d w))) l1 m1 j1 j (list_sound (IsItem end bytes) (read.item end bytes) (item_sound end bytes) l1 xs m1 e1)
-        (took_then (Is is_from) (Seq (spec.Joined end bytes d f) (spec.Filter end bytes d w)) l2 1 j2 j1 (took_is is_from l2 refl from)
-        (subst (λ z. Took (Seq (spec.Joined end bytes d f) (spec.Filter end bytes d w)) (drop z l2) j2) one
-        (took_then (spec.Joined end bytes d f) (spec.Filter end bytes d w) l3 m3 j3 j2 (joined_sound l3 f m3 e3) (filter_sound l4 w j3 e4) s3)) (s2 ∙ ap (λ z. z + j2) one)) s1) s)
+        (took_then (spec.Quantifier end bytes d b) (Seq (Listed (IsItem end bytes) xs) (Seq (Is is_from) (Seq (spec.FromList end bytes d f) (spec.Filter end bytes d w)))) ts m j n (quantifier_sound ts b m e)
+        (took_then (Listed (IsItem end bytes) xs) (Seq (Is is_from) (Seq (spec.FromList end bytes d f) (spec.Filter end bytes d w))) l1 m1 j1 j (list_sound (IsItem end bytes) (read.item end bytes) (item_sound end bytes) l1 xs m1 e1)
+        (took_then (Is is_from) (Seq (spec.FromList end bytes d f) (spec.Filter end bytes d w)) l2 1 j2 j1 (took_is is_from l2 refl from)
+        (subst (λ z. Took (Seq (spec.FromList end bytes d f) (spec.Filter end bytes d w)) (drop z l2) j2) one
+        (took_then (spec.FromList end bytes d f) (spec.Filter end bytes d w) l3 m3 j3 j2 (from_list_sound l3 f m3 e3) (filter_sound l4 w j3 e4) s3)) (s2 ∙ ap (λ z. z + j2) one)) s1) s)

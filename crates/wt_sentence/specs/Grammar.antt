@@ -1,6 +1,6 @@
 -- The grammar of statements: which tokens are which tree. Each definition is a line of it, and says of a value and of
 -- tokens that the tokens are a sentence of the line with this value.
-use Rattle.std.specs.Prelude.{◌≡◌, ℕ, zero, suc, ◌^◌, ◌<◌, ◌≤◌, Bool, true, false, ◌⊎◌, List, [], ◌∷◌, ◌++◌, Option, Some, None, pos, neg_ℤ}
+use Rattle.std.specs.Prelude.{◌≡◌, ℕ, zero, suc, ◌^◌, ◌<◌, ◌≤◌, Bool, true, false, ◌⊎◌, List, [], ◌∷◌, Option, Some, None, pos, neg_ℤ}
 use Rattle.wt_value.specs.declared.value.Value.{Value}
 use Rattle.wt_value.specs.declared.value.Value.TheVariants as value
 use Rattle.wt_lex.specs.declared.token.Sym.TheVariants as sym
@@ -10,46 +10,24 @@ use Rattle.wt_ast.specs.declared.tree.Item.TheVariants as items
 use Rattle.wt_ast.specs.declared.tree.Scalar.{Scalar}
 use Rattle.wt_ast.specs.declared.tree.Scalar.TheVariants as scalar
 use Rattle.wt_ast.specs.declared.tree.CmpWord.{CmpWord}
-use Rattle.wt_ast.specs.Tree.{QueryTree, FilterTree, FromTree, CondTree, CondTrees, select, no_filter, filter_by, table, derived, compare, is_null, is_not_null, in_list, in_query, all_of, any_of, negated}
-use Rattle.wt_grammar.specs.declared.lexeme.Kind.{Kind}
-use Rattle.wt_grammar.specs.declared.lexeme.Kind.TheVariants.{Number, Text, Mark}
-use Rattle.wt_grammar.specs.declared.lexeme.Lexeme.{Lexeme}
-use Rattle.wt_grammar.specs.declared.lexeme.JoinKind.{JoinKind}
-use Rattle.wt_grammar.specs.declared.lexeme.JoinKind.TheVariants as joining
-use Rattle.wt_grammar.specs.Lexemes.{Tokens, place, is_and, is_or, is_not, is_select, is_distinct, is_all, is_from, is_where, is_between, is_is, is_null_word, is_in, is_as, is_inner, is_left, is_outer, is_join, is_on, is_open, is_close, is_comma, is_dot, is_star, is_name}
+use Rattle.wt_ast.specs.Tree.{QueryTree, FilterTree, FromTree, CondTree, CondTrees, select, no_filter, filter_by, table, derived, comma, compare, is_null, is_not_null, in_list, in_query, all_of, any_of, negated}
+use Rattle.wt_reading.specs.declared.lexeme.Kind.{Kind}
+use Rattle.wt_reading.specs.declared.lexeme.Kind.TheVariants.{Number, Text, Mark}
+use Rattle.wt_grammar.specs.declared.join.JoinKind.{JoinKind}
+use Rattle.wt_grammar.specs.declared.join.JoinKind.TheVariants as joining
+use Rattle.wt_reading.specs.Lexemes.{Tokens, place, is_comma, is_name}
+use Rattle.wt_grammar.specs.Kinds.{is_and, is_or, is_not, is_select, is_distinct, is_all, is_from, is_where, is_between, is_is, is_null_word, is_in, is_as, is_inner, is_left, is_right, is_outer, is_join, is_on, is_dot, is_star}
+use Rattle.wt_reading.specs.Sentences.{Seq, One, Is, IsAt, Behind, Listed, Parens}
 use Rattle.wt_grammar.specs.Reading.{name_at, text_at, cmp_of, between_of, one_or, join_of, name_only, place_or}
-
--- one part, and another behind it
-abbrev pub Seq : (Tokens → Type 0) → (Tokens → Type 0) → Tokens → Type 0
-Seq P Q ts = (a : Tokens) × (b : Tokens) × (ts ≡ a ++ b) × P a × Q b
-
--- one token
-abbrev pub One : (Lexeme → Type 0) → Tokens → Type 0
-One P ts = (t : Lexeme) × (ts ≡ t ∷ []) × P t
-
--- one token of a kind, and where it stands
-abbrev pub Is : (Kind → Bool) → Tokens → Type 0
-Is wanted = One (λ t. wanted t.kind ≡ true)
-
-abbrev pub IsAt : (Kind → Bool) → ℕ → Tokens → Type 0
-IsAt wanted at = One (λ t. (wanted t.kind ≡ true) × (at ≡ t.token.start))
-
--- { sep part }
-abbrev pub Behind : {A : Type 0} → (Kind → Bool) → (A → Tokens → Type 0) → List A → Tokens → Type 0
-Behind sep Part [] ts = ts ≡ []
-Behind sep Part (x ∷ xs) ts = Seq (Is sep) (Seq (Part x) (Behind sep Part xs)) ts
-
--- part { "," part }
-abbrev pub Listed : {A : Type 0} → (A → Tokens → Type 0) → List A → Tokens → Type 0
-Listed {A} Part xs ts = (y : A) × (ys : List A) × Seq (Part y) (Behind is_comma Part ys) ts × (xs ≡ y ∷ ys)
-
--- "(" part ")"
-abbrev pub Parens : {A : Type 0} → (A → Tokens → Type 0) → A → Tokens → Type 0
-Parens Part x = Seq (Is is_open) (Seq (Part x) (Is is_close))
 
 -- part { sep part }, as one condition
 abbrev pub Run : (Kind → Bool) → (ℕ → CondTrees → CondTree) → (CondTree → Tokens → Type 0) → CondTree → Tokens → Type 0
 Run sep whole Part c ts = (x : CondTree) × (xs : List CondTree) × Seq (Part x) (Behind sep Part xs) ts × (c ≡ one_or whole x xs)
+
+-- so many steps, each from what was made before
+abbrev pub Chain : (FromTree → FromTree → Tokens → Type 0) → ℕ → FromTree → FromTree → Tokens → Type 0
+Chain Step zero a f ts = (ts ≡ []) × (f ≡ a)
+Chain Step (suc n) a f ts = (g : FromTree) × Seq (Step a g) (Chain Step n g f) ts
 
 -- What stands one level deeper: whether there is a level left, NOT and a condition, a condition, a query and a join in
 -- parentheses.
@@ -166,13 +144,16 @@ module _ (end : ℕ) (bytes : List ℕ) where
     abbrev pub Primary : FromTree → Tokens → Type 0
     Primary f ts = Table f ts ⊎ Derived f ts ⊎ deeper.froms f ts
 
-    -- [INNER] JOIN | LEFT [OUTER] JOIN
+    -- [INNER] JOIN | ( LEFT | RIGHT ) [OUTER] JOIN
+    abbrev pub Outer : (Kind → Bool) → Tokens → Type 0
+    Outer side ts = Seq (Is side) (Is is_join) ts ⊎ Seq (Is side) (Seq (Is is_outer) (Is is_join)) ts
+
     abbrev pub JoinWords : JoinKind → Tokens → Type 0
     JoinWords k ts =
         (Is is_join ts × (k ≡ joining.Inner))
         ⊎ (Seq (Is is_inner) (Is is_join) ts × (k ≡ joining.Inner))
-        ⊎ (Seq (Is is_left) (Is is_join) ts × (k ≡ joining.Left))
-        ⊎ (Seq (Is is_left) (Seq (Is is_outer) (Is is_join)) ts × (k ≡ joining.Left))
+        ⊎ (Outer is_left ts × (k ≡ joining.Left))
+        ⊎ (Outer is_right ts × (k ≡ joining.Right))
 
     -- joined = primary { join primary ON cond }, each join to the right of what stands before it
     abbrev pub Join : FromTree → FromTree → Tokens → Type 0
@@ -180,12 +161,15 @@ module _ (end : ℕ) (bytes : List ℕ) where
         (k : JoinKind) × (b : FromTree) × (on : ℕ) × (c : CondTree) × Seq (JoinWords k) (Seq (Primary b) (Seq (IsAt is_on on) (Cond c))) ts
         × (f ≡ join_of k a b c on)
 
-    abbrev pub Joins : ℕ → FromTree → FromTree → Tokens → Type 0
-    Joins zero a f ts = (ts ≡ []) × (f ≡ a)
-    Joins (suc n) a f ts = (g : FromTree) × Seq (Join a g) (Joins n g f) ts
-
     abbrev pub Joined : FromTree → Tokens → Type 0
-    Joined f ts = (a : FromTree) × (n : ℕ) × Seq (Primary a) (Joins n a f) ts
+    Joined f ts = (a : FromTree) × (n : ℕ) × Seq (Primary a) (Chain Join n a f) ts
+
+    -- list = joined { "," joined }, each to the right of what stands before it
+    abbrev pub ListedPart : FromTree → FromTree → Tokens → Type 0
+    ListedPart a f ts = (b : FromTree) × (at : ℕ) × Seq (IsAt is_comma at) (Joined b) ts × (f ≡ comma a b at)
+
+    abbrev pub FromList : FromTree → Tokens → Type 0
+    FromList f ts = (a : FromTree) × (n : ℕ) × Seq (Joined a) (Chain ListedPart n a f) ts
 
     -- [ WHERE cond ]
     abbrev pub Filter : FilterTree → Tokens → Type 0
@@ -195,11 +179,11 @@ module _ (end : ℕ) (bytes : List ℕ) where
     abbrev pub Quantifier : Bool → Tokens → Type 0
     Quantifier d ts = ((ts ≡ []) × (d ≡ false)) ⊎ (Is is_all ts × (d ≡ false)) ⊎ (Is is_distinct ts × (d ≡ true))
 
-    -- what stands behind SELECT: [ALL | DISTINCT] items FROM joined [ WHERE cond ]
+    -- what stands behind SELECT: [ALL | DISTINCT] items FROM list [ WHERE cond ]
     abbrev pub Body : QueryTree → Tokens → Type 0
     Body q ts =
         (d : Bool) × (is : List Item) × (f : FromTree) × (w : FilterTree)
-        × Seq (Quantifier d) (Seq (Listed IsItem is) (Seq (Is is_from) (Seq (Joined f) (Filter w)))) ts × (q ≡ select d is f w)
+        × Seq (Quantifier d) (Seq (Listed IsItem is) (Seq (Is is_from) (Seq (FromList f) (Filter w)))) ts × (q ≡ select d is f w)
 
   -- what stands under so many more levels
   unfoldable pub deeper : ℕ → Deeper

@@ -120,7 +120,7 @@ module _ (p : PairTree) (symbols : has_lawful_symbols p ≡ true) where
       (among_below (length p.anchors) (lists_of p.source) (lists_of p.dest) of_source (and_both _ _ (and_both _ _ parts.2).0).1)
 
 -- the tests before the weight pass, and the destination weighs as much
-pub weight_fault : (p : PairTree) → has_lawful_symbols p ≡ true → size_of p.source ≤ 3 → size_of p.dest ≤ 3 → has_lawful_anchors p ≡ true →
+pub weight_fault : (p : PairTree) → has_lawful_symbols p ≡ true → size_of p.source ≤ 4 → size_of p.dest ≤ 4 → has_lawful_anchors p ≡ true →
     weight_of p.source ≤ weight_of p.dest → Some Weight ≡ fault_of p
 weight_fault p symbols source dest anchors weights =
     let sizes : has_lawful_sizes p ≡ true = grind (arith, common_steps) in
@@ -142,9 +142,9 @@ pub none_from_lawful : (p : PairTree) → IsLawful p → fault_of p ≡ None
 none_from_lawful p h = rw (h.symbols, h.sizes, h.anchors, h.weights, h.roots) refl
 
 module _ (p : PairTree) (lawful : IsLawful p) where
-  pub lawful_sizes : (size_of p.source ≤ 3) × (size_of p.dest ≤ 3)
+  pub lawful_sizes : (size_of p.source ≤ 4) × (size_of p.dest ≤ 4)
   lawful_sizes =
-      let both = and_both (nat_le (size_of p.source) 3) (nat_le (size_of p.dest) 3) lawful.sizes in
+      let both = and_both (nat_le (size_of p.source) 4) (nat_le (size_of p.dest) 4) lawful.sizes in
       let first = both.0 in
       let second = both.1 in
       (grind (arith, common_steps), grind (arith, common_steps))

@@ -37,9 +37,9 @@ has_lawful_symbols p =
     is_numbered p.source && (length p.anchors == length (lists_of p.source)) && uses_symbols_of p.source p.dest
     && all_different (leaves_of p.dest)
 
--- a side has at most three operators
+-- a side has at most four operators
 abbrev pub most_operators : ℕ
-most_operators = 3
+most_operators = 4
 
 -- Size: neither side has more
 abbrev pub has_lawful_sizes : PairTree → Bool

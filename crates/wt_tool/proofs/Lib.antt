@@ -7,3 +7,5 @@ pub mod TowerPairs
 pub mod RuleLines
 pub mod Statuses
 pub mod QueryLaws
+pub mod Alone
+pub mod RuleBags

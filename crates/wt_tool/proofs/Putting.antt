@@ -30,6 +30,10 @@ prefix_after old mid new a b rest e h = (
       (take-append-add a (b ++ rest) (min h.0 (length b)) ∙ ap (λ t. a ++ t) (take-append-le (min h.0 (length b)) b rest (omega arith) ∙ take_min h.0 b))))),
 )
 
+-- a prefix of a text is a prefix of a longer one
+pub prefix_more : (old new : Option (List ℕ)) (a rest : List ℕ) → AppendsPrefix old new a → AppendsPrefix old new (a ++ rest)
+prefix_more old new a rest h = (min h.0 (length a), h.1 ∙ ap (append_known old) (sym (take-append-le (min h.0 (length a)) a rest (omega arith) ∙ take_min h.0 a)))
+
 -- a stop while a part is written is a stop of the whole
 pub stops_after : (rose rose' : Type 0) → (rose → rose') → (old mid new : Option (List ℕ)) (a b rest : List ℕ) → mid ≡ append_known old a → (stop : Stop)
     → Stops ⊥ rose mid new b stop → Stops ⊥ rose' old new (a ++ (b ++ rest)) stop

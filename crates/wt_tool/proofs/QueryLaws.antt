@@ -5,7 +5,7 @@ use Rattle.std.specs.List.{list_all}
 use Rattle.std.specs.Str.{bytes_eq}
 use Rattle.std.specs.declared.option.Option.{Option}
 use Rattle.std.proofs.lemmas.Slice.Eq.{bytes_eq-Decides}
-use Rattle.wt_ast.specs.Tree.{QueryTree, select, table, derived, inner_join, left_join, no_filter}
+use Rattle.wt_ast.specs.Tree.{QueryTree, select, table, derived, inner_join, left_join, right_join, comma, no_filter}
 use Rattle.wt_ast.specs.declared.tree.Item.{Item}
 use Rattle.wt_ast.specs.declared.tree.Item.TheVariants as items
 use Rattle.wt_bag.specs.Bags.{count_of}
@@ -13,8 +13,7 @@ use Rattle.wt_schema.specs.Satisfying.{rows_of}
 use Rattle.wt_schema.specs.declared.schema.Table.{Table}
 use Rattle.wt_value.specs.Values.{Tuple, row_same}
 use Rattle.wt_tool.specs.Laws.{KeepsNames, KeepsRows}
-use Rattle.wt_tool.specs.Names.{is_bare}
-use Rattle.wt_tool.specs.Queries.{are_items_of, column_place, is_item_of, is_rewritable, item_rewritten, item_value, output_name, output_names, query_rows, rewritten, rows_at, rows_in, table_place}
+use Rattle.wt_tool.specs.Queries.{are_items_of, column_place, is_item_of, is_rewritable, item_rewritten, item_value, output_name, output_names, query_rows, rewritten, rows_at, rows_in, table_place, is_plain}
 
 -- two tests that hold together hold each
 both_hold : (a b : Bool) → (a && b) ≡ true → (a ≡ true) × (b ≡ true)
@@ -33,6 +32,8 @@ keeps_output_names (select distinct chosen (table name alias at alias_at) where_
 keeps_output_names (select distinct chosen (derived query alias columns at alias_at) where_part) = refl
 keeps_output_names (select distinct chosen (inner_join left right on on_at) where_part) = refl
 keeps_output_names (select distinct chosen (left_join left right on on_at) where_part) = refl
+keeps_output_names (select distinct chosen (right_join left right on on_at) where_part) = refl
+keeps_output_names (select distinct chosen (comma left right comma_at) where_part) = refl
 
 pub keeps_names : KeepsNames
 keeps_names tables query h = keeps_output_names query
@@ -45,7 +46,7 @@ speaks_of (Some qualifier) name h = h
 module _ (t : Table) (name : List ℕ) (row : Tuple) where
   value_kept : (item : Item) → is_item_of t name item ≡ true → item_value t (codes "q0") row (item_rewritten item) ≡ item_value t name row item
   value_kept (items.Column column None) h =
-      let parts = both_hold (bytes_eq (unwrap_or column.table []) name && is_some (column_place t column.name)) (is_bare column.name) h in
+      let parts = both_hold (bytes_eq (unwrap_or column.table []) name && is_some (column_place t column.name)) (is_plain column.name) h in
       let qualified = both_hold (bytes_eq (unwrap_or column.table []) name) (is_some (column_place t column.name)) parts.0 in
       rw (speaks_of column.table name qualified.0) refl
   value_kept (items.Column column (Some output)) h = absurd cc
@@ -75,7 +76,7 @@ module _ (name : List ℕ) (chosen : List Item) where
 
 same_rows : (tables : List Table) (base : List (List Tuple)) (query : QueryTree) → is_rewritable tables query ≡ true → query_rows tables base (rewritten query) ≡ query_rows tables base query
 same_rows tables base (select false chosen (table name None at alias_at) no_filter) h =
-    rows_kept name chosen tables base (table_place tables name) (both_hold (is_bare name) (are_items_of name chosen (option_and_then (slice_get tables) (table_place tables name))) h).1
+    rows_kept name chosen tables base (table_place tables name) (both_hold (is_plain name) (are_items_of name chosen (option_and_then (slice_get tables) (table_place tables name))) h).1
 same_rows tables base _ h = absurd cc
 
 pub keeps_rows : KeepsRows

@@ -1,6 +1,6 @@
 -- The lines of the rules of pairs, one lot after another.
 use Rattle.std.proofs.Common.{◌≡◌, ◌∙◌, ℕ, zero, suc, ◌+◌, ◌-◌, ◌<◌, ◌≤◌, ◌^◌, min, List, [], ◌++◌, length, take, drop, map, refl, ap, sym, subst, arith, append_assoc, append-nil, length-drop, length-take, inl, inr}
-use Rattle.std.specs.Prelude.{◌↔◌, All, IsNone, is_some, Some, Ok, Err}
+use Rattle.std.specs.Prelude.{◌↔◌, All, IsNone, is_some, Some, None, Ok, Err}
 use Rattle.std.proofs.lemmas.Bool.{true≢false}
 use Rattle.std.proofs.lemmas.List.{length-map, take_all, take-append-drop}
 use Rattle.std.specs.Io.KnownBytes.{append_known}
@@ -105,7 +105,7 @@ module _ (b : Bounds) (rose : Type 0) (old : Option (List ℕ)) where
   -- the head was not written whole, or not at all
   pub stops_before : (rose' : Type 0) → (rose' → rose) → (new : Option (List ℕ)) (stop : Stop) → Stops ⊥ rose' old new (head_line b.steps) stop → Discovers b rose old new (Err stop)
   stops_before rose' f new stop h = (
-    record { status = 6; text = head_line b.steps ++ [] },
+    record { status = None; text = head_line b.steps ++ [] },
     inr (0, [], 0, (refl, refl), refl),
     stops_after rose' rose f old old new [] (head_line b.steps) [] (sym (append_known-nil old)) stop h,
   )
@@ -113,14 +113,14 @@ module _ (b : Bounds) (rose : Type 0) (old : Option (List ℕ)) where
   module _ (mid : Option (List ℕ)) (head : mid ≡ append_known old (head_line b.steps)) where
     pub stops_between : (rose' : Type 0) → (rose' → rose) → (new : Option (List ℕ)) (stop : Stop) → PutsRules b rose' mid new (Err stop) → Discovers b rose old new (Err stop)
     stops_between rose' f new stop h = (
-      record { status = 6; text = head_line b.steps ++ h.1 },
+      record { status = None; text = head_line b.steps ++ h.1 },
       inr (h.0, h.1, h.2, h.3, refl),
       subst (λ t. Stops ⊥ rose old new (head_line b.steps ++ t) stop) (append-nil h.1) (stops_after rose' rose f old mid new (head_line b.steps) h.1 [] head stop h.4),
     )
 
     module _ (put : Option (List ℕ)) (lines : List ℕ) (count : ℕ) (are : AreCounted b.steps b.depth (pairs_of b) lines count) (rules : put ≡ append_known mid lines) where
       abbrev ended : Outcome
-      ended = record { status = 0; text = head_line b.steps ++ (lines ++ end_line count) }
+      ended = record { status = Some 0; text = head_line b.steps ++ (lines ++ end_line count) }
 
       ended_whole : IsWhole b ended
       ended_whole = (

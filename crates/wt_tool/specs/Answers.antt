@@ -1,9 +1,10 @@
 -- What the top call answers.
-use Rattle.std.specs.Prelude.{ℕ, List, [], ◌∷◌, ◌++◌, codes, MatchResult}
+use Rattle.std.specs.Prelude.{ℕ, List, [], ◌∷◌, ◌++◌, codes, Some, MatchResult}
 use Rattle.std.specs.declared.option.Option.{Option}
 use Rattle.wt_tool.specs.declared.input.Input.{Input}
-use Rattle.wt_tool.specs.declared.words.UsageFault.{UsageFault}
-use Rattle.wt_tool.specs.declared.words.UsageFault.TheVariants.{NotBuilt}
+use Rattle.wt_words.specs.declared.fault.UsageFault.TheVariants as faults
+use Rattle.wt_tool.specs.declared.words.UsageRefusal.{UsageRefusal}
+use Rattle.wt_tool.specs.declared.words.UsageRefusal.TheVariants.{Fault, NotBuilt}
 use Rattle.wt_tool.specs.Discovering.{IsDiscovered}
 use Rattle.wt_tool.specs.Inputs.{IsInput}
 use Rattle.wt_tool.specs.Outcomes.{Outcome, Ends}
@@ -20,13 +21,22 @@ pub record AreInputs (told : List ℕ → Option (List ℕ)) (names : Names) (ru
 abbrev pub WithInputs : (List ℕ → Option (List ℕ)) → Names → (Input → Input → Input → Type 0) → Type 0
 WithInputs told names P = (rules schema queries : Input) × AreInputs told names rules schema queries × P rules schema queries
 
--- the word of a usage fault
-abbrev pub usage_word : UsageFault → List ℕ
+-- the kind of words that are refused
+abbrev pub usage_word : UsageRefusal → List ℕ
+usage_word (Fault faults.NoCommand) = codes "NoCommand"
+usage_word (Fault faults.UnknownCommand) = codes "UnknownCommand"
+usage_word (Fault faults.WordCount) = codes "WordCount"
+usage_word (Fault faults.UnknownKey) = codes "UnknownKey"
+usage_word (Fault faults.RepeatedKey) = codes "RepeatedKey"
+usage_word (Fault faults.BadNumber) = codes "BadNumber"
+usage_word (Fault faults.OutOfRange) = codes "OutOfRange"
+usage_word (Fault faults.BadOps) = codes "BadOps"
+usage_word (Fault faults.MissingKey) = codes "MissingKey"
 usage_word NotBuilt = codes "NotBuilt"
 
 -- words that are no command: `usage KIND`
-abbrev pub usage : UsageFault → Outcome
-usage fault = record { status = 1; text = codes "usage " ++ (usage_word fault ++ 10 ∷ []) }
+abbrev pub usage : UsageRefusal → Outcome
+usage fault = record { status = Some 1; text = codes "usage " ++ (usage_word fault ++ 10 ∷ []) }
 
 -- the outcome of a command, for some inputs that its files may have given; one line a command
 abbrev pub CommandOutcome : (List ℕ → Option (List ℕ)) → (Outcome → Type 0) → Command → Type 0

@@ -2,7 +2,6 @@ pub mod Causes
 pub mod Inputs
 pub mod Outcomes
 pub mod Words
-pub mod Names
 pub mod FaultNames
 pub mod Queries
 pub mod Printing

@@ -1,23 +1,28 @@
 -- What a command has to answer, and how it may end short of it.
-use Rattle.std.specs.Prelude.{◌≡◌, ◌≢◌, ℕ, List, take, Result, Ok, Err, ◌⊎◌}
+use Rattle.std.specs.Prelude.{◌≡◌, ◌≢◌, ℕ, List, take, Result, Ok, Err, Some, ◌⊎◌}
 use Rattle.std.specs.declared.option.Option.{Option}
 use Rattle.std.specs.Io.KnownBytes.{append_known}
 use Rattle.wt_tool.specs.declared.stop.Stop.{Stop}
 use Rattle.wt_tool.specs.declared.stop.Stop.TheVariants.{Read, Write, Memory}
 
--- the status and the whole text of a command that meets no fault and no want of memory
+-- the status and the whole text of a command that meets no fault and no want of memory; or, without a status, a part of the text
+-- that a run may have come to which ends before its answer is known
 pub record Outcome : Type 0 where
-  pub status : ℕ
+  pub status : Option ℕ
   pub text : List ℕ
 
 -- what was written grew by a prefix of the text
 abbrev pub AppendsPrefix : Option (List ℕ) → Option (List ℕ) → List ℕ → Type 0
 AppendsPrefix old new text = (n : ℕ) × (new ≡ append_known old (take n text))
 
+-- the status is the outcome's, and its text was written whole
+abbrev pub Writes : Option (List ℕ) → Option (List ℕ) → Outcome → ℕ → Type 0
+Writes old new o status = (o.status ≡ Some status) × (new ≡ append_known old o.text)
+
 -- How a command ended, by its status: 3 is a fault of a read, before which nothing was written; 5 a fault of a write; 6 want of
 -- memory; after these two a prefix of the text was written. Any other status is the outcome's, and the text was written whole.
 pub record Ends (read_rose write_rose : Type 0) (old new : Option (List ℕ)) (o : Outcome) (status : ℕ) : Type 0 where
-  pub done : status ≢ 3 → status ≢ 5 → status ≢ 6 → (status ≡ o.status) × (new ≡ append_known old o.text)
+  pub done : status ≢ 3 → status ≢ 5 → status ≢ 6 → Writes old new o status
   pub read : status ≡ 3 → read_rose × (new ≡ old)
   pub write : status ≡ 5 → write_rose
   pub prefix : (status ≡ 5) ⊎ (status ≡ 6) → AppendsPrefix old new o.text
@@ -32,7 +37,7 @@ Stops read_rose write_rose old new text Memory = AppendsPrefix old new text
 
 -- a command ends as its outcome says, or stops with a cause
 abbrev pub Runs : Type 0 → Type 0 → Option (List ℕ) → Option (List ℕ) → Outcome → Result ℕ Stop → Type 0
-Runs read_rose write_rose old new o (Ok status) = (status ≡ o.status) × (new ≡ append_known old o.text)
+Runs read_rose write_rose old new o (Ok status) = (o.status ≡ Some status) × (new ≡ append_known old o.text)
 Runs read_rose write_rose old new o (Err stop) = Stops read_rose write_rose old new o.text stop
 
 -- a part of a command writes a text, or stops with a cause; it reads nothing

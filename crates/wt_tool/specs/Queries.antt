@@ -13,7 +13,7 @@ use Rattle.wt_schema.specs.Satisfying.{rows_of}
 use Rattle.wt_value.specs.Values.{Tuple}
 use Rattle.wt_value.specs.declared.value.Value.{Value}
 use Rattle.wt_value.specs.declared.value.Value.TheVariants.{Null}
-use Rattle.wt_tool.specs.Names.{is_bare}
+use Rattle.wt_lex.specs.Words.{is_bare}
 
 -- the place of the column of this name in its table, and of the table of this name in its schema
 abbrev pub column_place : Table → List ℕ → Option ℕ
@@ -53,10 +53,14 @@ output_name _ = []
 abbrev pub output_names : QueryTree → List (List ℕ)
 output_names (select distinct chosen from where_part) = map output_name chosen
 
+-- a name that is written without quotes
+unfoldable pub is_plain : List ℕ → Bool
+is_plain name = is_bare name
+
 -- Which queries are rewritten: `SELECT T.c, .. FROM T`, T a table of the schema, each c one of its columns, all names bare.
 
 abbrev pub names_column : Table → List ℕ → ColumnName → Bool
-names_column t name column = bytes_eq (unwrap_or column.table []) name && is_some (column_place t column.name) && is_bare column.name
+names_column t name column = bytes_eq (unwrap_or column.table []) name && is_some (column_place t column.name) && is_plain column.name
 
 abbrev pub is_item_of : Table → List ℕ → Item → Bool
 is_item_of t name (items.Column column None) = names_column t name column
@@ -68,7 +72,7 @@ are_items_of name chosen (Some t) = list_all (is_item_of t name) chosen
 
 abbrev pub is_rewritable : List Table → QueryTree → Bool
 is_rewritable tables (select false chosen (table name None at alias_at) no_filter) =
-    is_bare name && are_items_of name chosen (option_and_then (slice_get tables) (table_place tables name))
+    is_plain name && are_items_of name chosen (option_and_then (slice_get tables) (table_place tables name))
 is_rewritable tables _ = false
 
 -- the same query with the table under the alias q0, and each output under its name

@@ -1,5 +1,5 @@
 -- What `rewrite` answers.
-use Rattle.std.specs.Prelude.{◌≡◌, ℕ, List, [], ◌∷◌, ◌++◌, Bool, true, false, if◌then◌else◌, codes, map, Ok, Err, Result}
+use Rattle.std.specs.Prelude.{◌≡◌, ℕ, List, [], ◌∷◌, ◌++◌, Bool, true, false, if◌then◌else◌, codes, map, Ok, Err, Some, Result}
 use Rattle.std.specs.Fmt.{decimal}
 use Rattle.std.specs.List.{flat_map, list_any}
 use Rattle.std.specs.Io.KnownBytes.{append_known}
@@ -7,8 +7,7 @@ use Rattle.std.specs.Str.{bytes_eq}
 use Rattle.std.specs.declared.option.Option.{Option}
 use Rattle.wt_ast.specs.Tree.{QueryTree}
 use Rattle.wt_ddl.specs.Schemas.{schema_of}
-use Rattle.wt_ddl.specs.declared.fault.DdlError.{DdlError}
-use Rattle.wt_ddl.specs.declared.fault.DdlError.TheVariants as ddl
+use Rattle.wt_ddl.specs.Refusals as ddl
 use Rattle.wt_grammar.specs.Reading.{Refusal, refused, odd}
 use Rattle.wt_grammar.specs.Statements.{File, Statement, Answer, answer, begin, file_of}
 use Rattle.wt_lex.specs.declared.token.LexFault.{LexFault}
@@ -30,7 +29,7 @@ ended text = text ++ 10 ∷ []
 -- Refused files.
 
 abbrev pub refusing : List ℕ → Outcome
-refusing text = record { status = 2; text = text }
+refusing text = record { status = Some 2; text = text }
 
 -- `fault NAME NotBuilt`
 abbrev pub not_built : List ℕ → Outcome
@@ -81,7 +80,7 @@ status_of true = 4
 status_of false = 0
 
 abbrev pub lines_outcome : List Line → Outcome
-lines_outcome lines = record { status = status_of (any_refused lines); text = lines_text lines }
+lines_outcome lines = record { status = Some (status_of (any_refused lines)); text = lines_text lines }
 
 -- a part of a command puts lines, and tells whether one of them is a refusal
 abbrev pub PutsLines : Type 0 → Option (List ℕ) → Option (List ℕ) → List Line → Result Bool Stop → Type 0
@@ -98,11 +97,10 @@ abbrev pub with_queries : Names → List Table → Input → Outcome
 with_queries names tables (Whole bytes) = with_file names tables (file_of bytes)
 with_queries names tables TooLong = too_long names.queries
 
-abbrev pub with_schema : Names → Input → Result (List Table) DdlError → Outcome
+abbrev pub with_schema : Names → Input → ddl.Checked (List Table) → Outcome
 with_schema names queries (Ok tables) = with_queries names tables queries
-with_schema names queries (Err (ddl.Fault fault at)) = fault_at names.schema at (schema_name fault)
-with_schema names queries (Err (ddl.Lex fault at)) = fault_at names.schema at (lexical_name fault)
-with_schema names queries (Err ddl.Memory) = too_long names.schema
+with_schema names queries (Err (ddl.refused fault, at)) = fault_at names.schema at (schema_name fault)
+with_schema names queries (Err (ddl.odd fault, at)) = fault_at names.schema at (lexical_name fault)
 
 abbrev pub with_rules : Names → Input → Input → Outcome
 with_rules names (Whole bytes) queries = with_schema names queries (schema_of bytes)

@@ -1,10 +1,10 @@
 //! `discover`, on the caller's thread.
-ghost use Rattle.std.specs.Prelude.{◌≤◌};
+ghost use Rattle.std.specs.Prelude.{◌≡◌, ◌≢◌, ◌≤◌, ◌⊎◌, ℕ, List};
 ghost use Rattle.wt_discover.specs.Files.{HasOnlyFiltersAndDedups};
 ghost use Rattle.wt_io.specs.Causes.{Rose};
 ghost use Rattle.wt_pair.specs.Candidates.{IsWithinLimits};
 ghost use Rattle.wt_tool.specs.Discovering as spec;
-ghost use Rattle.wt_tool.specs.Outcomes.{Ends, Outcome};
+ghost use Rattle.wt_tool.specs.Outcomes.{AppendsPrefix, Ends, Outcome};
 
 use crate::put::put;
 use crate::stop::Stop;
@@ -44,12 +44,21 @@ fn try_discover<K: Sink>(alloc: Global, bounds: &Bounds, sink: &mut K) -> Result
     Ok(0)
 }
 
-/// Discovers the rules of bounds, and ends with the status.
-pub(crate) fn discover<K: Sink>(alloc: Global, bounds: &Bounds, sink: &mut K) -> u8
+/// Writes the rule file of the bounds, made on the caller's thread, and ends with the status of the command.
+pub fn discover_alone<K: Sink>(alloc: Global, bounds: &Bounds, sink: &mut K) -> u8
     requires limits { IsWithinLimits bounds.now }
     requires letters { HasOnlyFiltersAndDedups bounds.now.ops.0 }
-    ensures { (o : Outcome) × spec.IsDiscovered bounds.now o
+
+    // The status and the bytes.
+    ensures whole { (o : Outcome) × spec.IsDiscovered bounds.now o
         × Ends ⊥ (Rose (K.faults sink.old) (K.faults sink.new)) (K.written sink.old) (K.written sink.new) o result }
+
+    // Every status but 5 and 6 is 0, and the rule file of the bounds was written.
+    ensures done { result ≢ 5 → result ≢ 6 → (result ≡ 0) × spec.WritesFile bounds.now (K.written sink.old) (K.written sink.new) }
+
+    // 5 comes only where the count of faults rose in this call; 6 is want of memory. After both a prefix of the file was written.
+    ensures write { result ≡ 5 → Rose (K.faults sink.old) (K.faults sink.new) }
+    ensures prefix { (result ≡ 5) ⊎ (result ≡ 6) → (file : List ℕ) → spec.IsFileOf bounds.now file → AppendsPrefix (K.written sink.old) (K.written sink.new) file }
 {
     match try_discover(alloc, bounds, sink) {
         Ok(status) => status,

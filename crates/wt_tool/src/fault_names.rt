@@ -67,7 +67,6 @@ pub(crate) fn query_name(fault: QueryFault) -> &'static str
         QueryFault::CrossJoin => "CrossJoin",
         QueryFault::NaturalJoin => "NaturalJoin",
         QueryFault::Using => "Using",
-        QueryFault::RightJoin => "RightJoin",
         QueryFault::CommaJoin => "CommaJoin",
         QueryFault::TooDeep => "TooDeep",
         QueryFault::TooMany => "TooMany",

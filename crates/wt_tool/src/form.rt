@@ -4,43 +4,19 @@ ghost use Rattle.std.specs.List.{list_all};
 ghost use Rattle.std.specs.Option.{option_map, option_copied};
 ghost use Rattle.std.specs.Str.{bytes_eq};
 ghost use Rattle.wt_ast.specs.Tree.{query_tree};
-ghost use Rattle.wt_tool.specs.Names as names;
 ghost use Rattle.wt_tool.specs.Queries as spec;
 
 use wt_ast::{ColumnName, FromPart, Item, Query};
-use wt_lex::is_reserved;
+use wt_lex::is_bare;
 use wt_schema::{Schema, Table};
 use wt_value::Name;
 
-fn begins_bare(byte: u8) -> bool
-    ensures { result ≡ names.begins_bare byte }
-{
-    (97 <= byte && byte <= 122) || byte == b'_'
-}
-
-fn goes_on_bare(byte: u8) -> bool
-    ensures { result ≡ names.goes_on_bare byte }
-{
-    begins_bare(byte) || (48 <= byte && byte <= 57)
-}
-
-fn all_go_on_bare(bytes: &[u8]) -> bool
-    ensures { result ≡ list_all names.goes_on_bare bytes.now }
-{
-    bytes.iter().all(|byte| goes_on_bare(*byte))
-}
-
 // A lower-case word that is not reserved, which is written without quotes.
-fn is_bare(name: &Name) -> bool
-    ensures { result ≡ names.is_bare name.now }
+#[tactic(auto, unfolding(crate::specs::Queries::is_plain))]
+fn is_plain(name: &Name) -> bool
+    ensures { result ≡ spec.is_plain name.now }
 {
-    let bytes = name.as_bytes();
-    match bytes {
-        [first, others @ ..] => {
-            begins_bare(*first) && all_go_on_bare(others) && !is_reserved(bytes)
-        }
-        [] => false,
-    }
+    is_bare(name.as_bytes())
 }
 
 fn column_place(table: &Table, name: &Name) -> Option<usize>
@@ -71,7 +47,7 @@ fn is_qualifier(table: &Option<Name>, name: &Name) -> bool
 fn names_column(table: &Table, name: &Name, column: &ColumnName) -> bool
     ensures { result ≡ spec.names_column table.now name.now column.now }
 {
-    is_qualifier(&column.table, name) && has_column(table, &column.name) && is_bare(&column.name)
+    is_qualifier(&column.table, name) && has_column(table, &column.name) && is_plain(&column.name)
 }
 
 fn is_item_of(table: &Table, name: &Name, item: &Item) -> bool
@@ -130,7 +106,7 @@ pub(crate) fn is_rewritable(schema: &Schema, query: &Query) -> bool
             name,
             alias: None,
             ..
-        } => is_bare(name) && is_over(schema.tables.as_slice(), name, query.items.as_slice()),
+        } => is_plain(name) && is_over(schema.tables.as_slice(), name, query.items.as_slice()),
         _ => false,
     }
 }

@@ -12,7 +12,6 @@ mod stop;
 mod top;
 mod words;
 
+pub use discovering::discover_alone;
+pub use rewriting::rewrite;
 pub use top::wetune;
-
-#[cfg(test)]
-mod tests;

@@ -1,12 +1,12 @@
 //! `rewrite`, over three files.
-ghost use Rattle.std.specs.Prelude.{◌≡◌, ◌<◌, ◌≤◌, length, ℕ, List, Some, IfOk, string_bytes, slice_get};
+ghost use Rattle.std.specs.Prelude.{◌≡◌, ◌≢◌, ◌<◌, ◌≤◌, ◌⊎◌, length, ℕ, List, Some, IfOk, string_bytes, slice_get};
 ghost use Rattle.wt_ddl.specs.Schemas.{schema_of};
 ghost use Rattle.wt_grammar.specs.Statements.{Statement, file_of};
 ghost use Rattle.wt_io.specs.Causes.{Rose};
 ghost use Rattle.wt_tool.specs.Answers.{AreInputs, WithInputs};
-ghost use Rattle.wt_tool.specs.Outcomes.{Ends, Runs, StopsReading};
+ghost use Rattle.wt_tool.specs.Outcomes.{AppendsPrefix, Ends, Runs, StopsReading, Writes};
 ghost use Rattle.wt_tool.specs.Rewriting as spec;
-ghost use Rattle.wt_tool.specs.Words.{names_of};
+ghost use Rattle.wt_tool.specs.Words.{named, names_of};
 
 use crate::fault_names::{lexical_name, query_name, schema_name};
 use crate::input::{Input, read_input};
@@ -246,8 +246,7 @@ fn try_rewrite<S: Store, K: Sink>(
     answer(alloc, names, &files, sink)
 }
 
-/// Rewrites the statements of a file, and ends with the status.
-pub(crate) fn rewrite<S: Store, K: Sink>(
+pub(crate) fn rewrite_files<S: Store, K: Sink>(
     alloc: Global,
     names: &Names<'_>,
     store: &mut S,
@@ -261,4 +260,42 @@ pub(crate) fn rewrite<S: Store, K: Sink>(
         Ok(status) => status,
         Err(stop) => stop.status(),
     }
+}
+
+/// Rewrites the statements of the file `queries` with the rules of the file `rules`, over the schema of the file `schema`, and
+/// ends with the status of the command.
+///
+/// It reads the three files in this order, and writes a line for each statement: the rewritten query, or why it is refused.
+pub fn rewrite<S: Store, K: Sink>(
+    alloc: Global,
+    rules: &str,
+    schema: &str,
+    queries: &str,
+    store: &mut S,
+    sink: &mut K,
+) -> u8
+    // The status and the bytes, for some inputs that the files may have given.
+    ensures whole { WithInputs (S.told store.old) (named rules.now schema.now queries.now) (λ r s q.
+        Ends (Rose (S.faults store.old) (S.faults store.new)) (Rose (K.faults sink.old) (K.faults sink.new))
+        (K.written sink.old) (K.written sink.new) (spec.rewriting (named rules.now schema.now queries.now) r s q) result) }
+
+    // Every status but 3, 5 and 6 is the outcome's, and the outcome's text was written.
+    ensures bytes { result ≢ 3 → result ≢ 5 → result ≢ 6 → WithInputs (S.told store.old) (named rules.now schema.now queries.now) (λ r s q.
+        Writes (K.written sink.old) (K.written sink.new) (spec.rewriting (named rules.now schema.now queries.now) r s q) result) }
+
+    // 3 and 5 come only where a count of faults rose in this call; before 3 nothing was written.
+    ensures read { result ≡ 3 → Rose (S.faults store.old) (S.faults store.new) × (K.written sink.new ≡ K.written sink.old) }
+    ensures write { result ≡ 5 → Rose (K.faults sink.old) (K.faults sink.new) }
+
+    // After 5 and 6, which is want of memory, a prefix of the text was written. There is no other status, and 1 is none.
+    ensures prefix { (result ≡ 5) ⊎ (result ≡ 6) → WithInputs (S.told store.old) (named rules.now schema.now queries.now) (λ r s q.
+        AppendsPrefix (K.written sink.old) (K.written sink.new) (spec.rewriting (named rules.now schema.now queries.now) r s q).text) }
+    ensures known { (result ≤ 6) × (result ≢ 1) }
+{
+    let names = Names {
+        rules,
+        schema,
+        queries,
+    };
+    rewrite_files(alloc, &names, store, sink)
 }

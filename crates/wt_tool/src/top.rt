@@ -1,34 +1,43 @@
 //! The top call.
 ghost use Rattle.std.specs.Prelude.{◌≡◌, ◌≢◌, ◌≤◌, ◌⊎◌, IsErr, map, string_bytes};
-ghost use Rattle.std.specs.Io.KnownBytes.{append_known};
 ghost use Rattle.wt_io.specs.Causes.{Rose};
 ghost use Rattle.wt_tool.specs.Answers.{Answers, RunOutcome, usage};
-ghost use Rattle.wt_tool.specs.Laws.{KeepsNames, KeepsRows};
-ghost use Rattle.wt_tool.specs.Outcomes.{AppendsPrefix, Ends};
+ghost use Rattle.wt_tool.specs.Laws.{KeepsNames, KeepsRows, RulesHaveOneBag};
+ghost use Rattle.wt_tool.specs.Outcomes.{AppendsPrefix, Ends, Writes};
 ghost use Rattle.wt_tool.specs.Words.{command_of};
 
-use crate::discovering::discover;
+use crate::discovering::discover_alone;
 use crate::put::put;
-use crate::rewriting::rewrite;
-use crate::words::{Command, UsageFault, read_words};
+use crate::rewriting::rewrite_files;
+use crate::words::{Command, UsageRefusal, read_words};
 use std::alloc::Global;
 use std::sync::Wait;
 use std::thread::Threads;
 use wt_io::{Gate, Sink, Store};
+use wt_words::UsageFault;
 
 // The line of words that are refused.
-fn usage_line(fault: UsageFault) -> &'static [u8]
-    ensures { result.now ≡ (usage fault).text }
+fn usage_line(refusal: UsageRefusal) -> &'static [u8]
+    ensures { result.now ≡ (usage refusal).text }
 {
-    match fault {
-        UsageFault::NotBuilt => b"usage NotBuilt\n",
+    match refusal {
+        UsageRefusal::Fault(UsageFault::NoCommand) => b"usage NoCommand\n",
+        UsageRefusal::Fault(UsageFault::UnknownCommand) => b"usage UnknownCommand\n",
+        UsageRefusal::Fault(UsageFault::WordCount) => b"usage WordCount\n",
+        UsageRefusal::Fault(UsageFault::UnknownKey) => b"usage UnknownKey\n",
+        UsageRefusal::Fault(UsageFault::RepeatedKey) => b"usage RepeatedKey\n",
+        UsageRefusal::Fault(UsageFault::BadNumber) => b"usage BadNumber\n",
+        UsageRefusal::Fault(UsageFault::OutOfRange) => b"usage OutOfRange\n",
+        UsageRefusal::Fault(UsageFault::BadOps) => b"usage BadOps\n",
+        UsageRefusal::Fault(UsageFault::MissingKey) => b"usage MissingKey\n",
+        UsageRefusal::NotBuilt => b"usage NotBuilt\n",
     }
 }
 
-fn refuse_words<K: Sink>(fault: UsageFault, sink: &mut K) -> u8
-    ensures { Ends ⊥ (Rose (K.faults sink.old) (K.faults sink.new)) (K.written sink.old) (K.written sink.new) (usage fault) result }
+fn refuse_words<K: Sink>(refusal: UsageRefusal, sink: &mut K) -> u8
+    ensures { Ends ⊥ (Rose (K.faults sink.old) (K.faults sink.new)) (K.written sink.old) (K.written sink.new) (usage refusal) result }
 {
-    match put(sink, usage_line(fault)) {
+    match put(sink, usage_line(refusal)) {
         Ok(()) => 1,
         Err(stop) => stop.status(),
     }
@@ -40,9 +49,9 @@ fn run<S: Store, K: Sink>(alloc: Global, words: &[String], store: &mut S, sink: 
         (K.written sink.old) (K.written sink.new) result }
 {
     match read_words(words) {
-        Ok(Command::Rewrite(names)) => rewrite(alloc, &names, store, sink),
-        Ok(Command::Discover(bounds)) => discover(alloc, &bounds, sink),
-        Err(fault) => refuse_words(fault, sink),
+        Ok(Command::Rewrite(names)) => rewrite_files(alloc, &names, store, sink),
+        Ok(Command::Discover(bounds)) => discover_alone(alloc, &bounds, sink),
+        Err(refusal) => refuse_words(refusal, sink),
     }
 }
 
@@ -62,9 +71,9 @@ pub fn wetune<R: Threads + Wait + Sync, S: Store, K: Sink, G: Gate + Sync>(
 
     // Every status but 3, 5 and 6 is the outcome's, and the outcome's text was written.
     ensures bytes { result ≢ 3 → result ≢ 5 → result ≢ 6 → RunOutcome (S.told store.old) (map string_bytes words.now)
-        (λ o. (result ≡ o.status) × (K.written sink.new ≡ append_known (K.written sink.old) o.text)) }
+        (λ o. Writes (K.written sink.old) (K.written sink.new) o result) }
 
-    // 1 comes exactly where the words are no command.
+    // 1 comes exactly where the words are no command that is built.
     ensures usage_only { result ≡ 1 → IsErr (command_of (map string_bytes words.now)) }
     ensures usage_where { IsErr (command_of (map string_bytes words.now)) → (result ≡ 1) ⊎ (result ≡ 3) ⊎ (result ≡ 5) ⊎ (result ≡ 6) }
 
@@ -76,6 +85,9 @@ pub fn wetune<R: Threads + Wait + Sync, S: Store, K: Sink, G: Gate + Sync>(
     ensures prefix { (result ≡ 5) ⊎ (result ≡ 6) → RunOutcome (S.told store.old) (map string_bytes words.now)
         (λ o. AppendsPrefix (K.written sink.old) (K.written sink.new) o.text) }
     ensures known { result ≤ 6 }
+
+    // What a rule of a written file means.
+    ensures one_bag { RulesHaveOneBag }
 
     // What a rewritten query has in common with its statement, on every database that satisfies the schema.
     ensures rows { KeepsRows }

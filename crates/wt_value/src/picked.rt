@@ -54,26 +54,3 @@ pub fn matches_at(a: &Row, places: &[u32], b: &Row, others: &[u32]) -> bool
 {
     agree_at(a.as_slice(), places, b.as_slice(), others)
 }
-
-#[cfg(test)]
-mod tests {
-    use super::*;
-    use std::alloc::{AllocError, Global};
-
-    fn pairs_match(alloc: Global, places: &[u32], others: &[u32]) -> Result<bool, AllocError> {
-        let mut row = Row::new(alloc);
-        for value in [Some(1), None, Some(1)] {
-            row.push(value.map_or(Value::Null, Value::Int))?;
-        }
-        Ok(matches_at(&row, places, &row, others))
-    }
-
-    #[test]
-    fn rows_match_at_places_without_null(rt: HostRuntime) -> Result<(), AllocError> {
-        assert!(rt; pairs_match(rt.alloc(), &[0, 2], &[2, 0])?);
-        assert!(rt; !pairs_match(rt.alloc(), &[1], &[1])?);
-        assert!(rt; !pairs_match(rt.alloc(), &[3], &[3])?);
-        assert!(rt; !pairs_match(rt.alloc(), &[0], &[0, 2])?);
-        Ok(())
-    }
-}

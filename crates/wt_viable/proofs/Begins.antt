@@ -1,17 +1,19 @@
 -- The tokens before a refusal begin a sentence of a part: readings put together.
-use Rattle.std.proofs.Common.{◌≡◌, ℕ, suc, zero, ◌⊎◌, inl, inr, Bool, true, false, List, [], ◌∷◌, ◌++◌, drop, refl, ap, sym, ◌∙◌, append_assoc, append-nil, Ok, Err, subst}
-use Rattle.wt_ast.specs.Tree.{CondTree, CondTrees}
+use Rattle.std.proofs.Common.{◌≡◌, ℕ, suc, zero, ◌-◌, ◌≤◌, arith, ◌⊎◌, inl, inr, Bool, true, false, List, [], ◌∷◌, ◌++◌, drop, refl, ap, sym, ◌∙◌, append_assoc, append-nil, Ok, Err, subst}
+use Rattle.wt_ast.specs.Tree.{FromTree, CondTree, CondTrees}
 use Rattle.wt_lex.specs.declared.token.TokenKind.TheVariants as kinds
-use Rattle.wt_grammar.specs.declared.lexeme.Kind.{Kind}
-use Rattle.wt_grammar.specs.declared.lexeme.Kind.TheVariants.{End, Mark}
+use Rattle.wt_reading.specs.declared.lexeme.Kind.{Kind}
+use Rattle.wt_reading.specs.declared.lexeme.Kind.TheVariants.{End, Mark}
 use Rattle.wt_lex.specs.declared.token.Sym.TheVariants as sym
-use Rattle.wt_grammar.specs.declared.lexeme.Lexeme.{Lexeme}
+use Rattle.wt_reading.specs.declared.lexeme.Lexeme.{Lexeme}
 use Rattle.wt_grammar.specs.declared.fault.QueryFault.{QueryFault}
-use Rattle.wt_grammar.specs.Lexemes.{Tokens, kind, place, is_open, is_close, is_comma}
-use Rattle.wt_grammar.specs.Reading.{Read, Refusal, refused, plus, followed, taken, joined_to, more, list, run, expect, within, one_or}
-use Rattle.wt_sentence.specs.Grammar.{Seq, Is, Behind, Listed, Parens, Run}
-use Rattle.wt_sentence.proofs.Inversions.{chosen}
-use Rattle.wt_sentence.proofs.Took.{Took, Sound, behind_front, took_is, expected}
+use Rattle.wt_reading.specs.Lexemes.{Tokens, kind, place, is_open, is_close, is_comma}
+use Rattle.wt_reading.specs.Readings.{plus, followed, taken, joined_to, more, list, expect, within, onward, repeat}
+use Rattle.wt_grammar.specs.Reading.{Read, Refusal, refused, refusal, run, one_or}
+use Rattle.wt_reading.specs.Sentences.{Seq, Is, Behind, Listed, Parens}
+use Rattle.wt_sentence.specs.Grammar.{Run, Chain}
+use Rattle.wt_reading.proofs.Inversions.{chosen}
+use Rattle.wt_reading.proofs.Took.{Took, Sound, behind_front, took_is, expected}
 
 -- tokens with some value
 abbrev pub Any : {A : Type 0} → (A → Tokens → Type 0) → Tokens → Type 0
@@ -119,7 +121,7 @@ module _ (end : ℕ) where
 
   -- one token that has to stand here, of which k is one
   pub begins_expect : (wanted : Kind → Bool) (k : Kind) (other : Kind → QueryFault) (ts : Tokens) (why : Refusal) (at : ℕ) → wanted k ≡ true
-      → expect end wanted other ts ≡ Err (why, at) → Begins end (Is wanted) ts at
+      → expect (λ l. wanted (kind l)) (refusal end other) ts ≡ Err (why, at) → Begins end (Is wanted) ts at
   unfolding expect
   begins_expect wanted k other ts why at is h =
       elim (chosen (wanted (kind ts)) _ _ _ h) [
@@ -130,25 +132,25 @@ module _ (end : ℕ) where
   -- and a reading behind it
   pub begins_expected : {B : Type 0} (wanted : Kind → Bool) (k : Kind) (other : Kind → QueryFault) (Q : Tokens → Type 0) (ts : Tokens) (f : Tokens → Read B) (why : Refusal) (at : ℕ)
       → wanted k ≡ true → wanted End ≡ false → Ending Q → ((l : Tokens) → f l ≡ Err (why, at) → Begins end Q l at)
-      → followed ts (expect end wanted other ts) (λ _ rest. f rest) ≡ Err (why, at) → Begins end (Seq (Is wanted) Q) ts at
+      → followed ts (expect (λ l. wanted (kind l)) (refusal end other) ts) (λ _ rest. f rest) ≡ Err (why, at) → Begins end (Seq (Is wanted) Q) ts at
   begins_expected wanted k other Q ts f why at is ends last second h =
       begins_as (λ l. (u : Unit {0}) × Seq (Is wanted) Q l) (Seq (Is wanted) Q) ts at (λ l p. p.1)
-      (begins_followed (λ _. Is wanted) (λ _. Q) ts (expect end wanted other ts) (λ _ rest. f rest) why at
+      (begins_followed (λ _. Is wanted) (λ _. Q) ts (expect (λ l. wanted (kind l)) (refusal end other) ts) (λ _ rest. f rest) why at
       (λ e. begins_as (Is wanted) (Any (λ (u : Unit {0}). Is wanted)) ts at (λ l p. (tt, p)) (begins_expect wanted k other ts why at is e)) read_one (λ _. last) (λ _ l e. second l e) h)
     where
-      read_one : (u : Unit {0}) (m : ℕ) → expect end wanted other ts ≡ Ok (u, m) → Took (Is wanted) ts m
-      read_one u m e = let (w, one) = expected wanted other end ts u m e in subst (Took (Is wanted) ts) (sym one) (took_is wanted ts ends w)
+      read_one : (u : Unit {0}) (m : ℕ) → expect (λ l. wanted (kind l)) (refusal end other) ts ≡ Ok (u, m) → Took (Is wanted) ts m
+      read_one u m e = let (w, one) = expected (λ l. wanted (kind l)) (refusal end other) ts u m e in subst (Took (Is wanted) ts) (sym one) (took_is wanted ts ends w)
 
   -- a part behind an opening parenthesis, and the one that closes it
   pub begins_within : {A : Type 0} (Part : A → Tokens → Type 0) (part : Tokens → Read A) (other : A → Kind → QueryFault) (ts : Tokens) (why : Refusal) (at : ℕ) → is_open (kind ts) ≡ true
       → (part (drop 1 ts) ≡ Err (why, at) → Begins end (Any Part) (drop 1 ts) at) → ((x : A) (m : ℕ) → part (drop 1 ts) ≡ Ok (x, m) → Took (Part x) (drop 1 ts) m)
-      → within end part other ts ≡ Err (why, at) → Begins end (Any (Parens Part)) ts at
+      → within part (λ x. refusal end (other x)) ts ≡ Err (why, at) → Begins end (Any (Parens Part)) ts at
   begins_within {A} Part part other ts why at opens first sound h =
       begins_as (Seq (Is is_open) (λ l. (x : A) × Seq (Part x) (Is is_close) l)) (Any (Parens Part)) ts at (λ l (a, b, e, o, (x, p)). (x, (a, b, e, o, p)))
       (begins_then (Is is_open) (λ l. (x : A) × Seq (Part x) (Is is_close) l) ts 1 at (took_is is_open ts refl opens)
-      (begins_followed Part (λ _. Is is_close) (drop 1 ts) (part (drop 1 ts)) (λ x rest. followed rest (expect end is_close (other x) rest) (λ _ r. Ok (x, 0))) why at first sound
+      (begins_followed Part (λ _. Is is_close) (drop 1 ts) (part (drop 1 ts)) (λ x rest. followed rest (expect (λ l. is_close (kind l)) (refusal end (other x)) rest) (λ _ r. Ok (x, 0))) why at first sound
       (λ x. a_token is_close (Mark sym.Close) refl)
-      (λ x l e. begins_expect is_close (Mark sym.Close) (other x) l why at refl (last_err l (expect end is_close (other x) l) (λ _. x) (why, at) e))
+      (λ x l e. begins_expect is_close (Mark sym.Close) (other x) l why at refl (last_err l (expect (λ l. is_close (kind l)) (refusal end (other x)) l) (λ _. x) (why, at) e))
       (plus_err 1 _ (why, at) h)))
 
   module _ {A : Type 0} (sep : Kind → Bool) (Part : A → Tokens → Type 0) (part : Tokens → Read A) (part_sound : Sound Part part) (part_begins : Viable end (Any Part) part) where
@@ -198,3 +200,44 @@ module _ (end : ℕ) where
   begins_run sep whole Part part sound viable ts why at h =
       begins_as (λ l. (x : CondTree) × Seq (Part x) (Any (Behind sep Part)) l) (Any (Run sep whole Part)) ts at (λ l (x, (a, b, e, p, (xs, q))). (one_or whole x xs, (x, xs, (a, b, e, p, q), refl)))
       (begins_parts sep Part part sound viable ts (λ x xs. one_or whole x xs) why at h)
+
+  -- steps, each from what was made before
+  abbrev pub MoreSteps : (FromTree → FromTree → Tokens → Type 0) → FromTree → Tokens → Type 0
+  MoreSteps Step a l = (m : ℕ) × (f : FromTree) × Chain Step m a f l
+
+  pub no_steps : (Step : FromTree → FromTree → Tokens → Type 0) (a : FromTree) → Ending (MoreSteps Step a)
+  no_steps Step a = ([], (0, a, (refl, refl)))
+
+  module _ (test : Kind → Bool) (Step : FromTree → FromTree → Tokens → Type 0) (step : FromTree → Tokens → Read FromTree)
+      (sound : (a : FromTree) (ts : Tokens) (f : FromTree) (n : ℕ) → test (kind ts) ≡ true → step a ts ≡ Ok (f, n) → Took (Step a f) ts n)
+      (some : (a f : FromTree) (ts : Tokens) (n : ℕ) → Took (Step a f) ts n → 1 ≤ n)
+      (begins : (a : FromTree) (ts : Tokens) (why : Refusal) (at : ℕ) → test (kind ts) ≡ true → step a ts ≡ Err (why, at) → Begins end (Any (Step a)) ts at) where
+    -- the number counts the tokens that still belong to what stands before
+    pub begins_chain : (a : FromTree) (n : ℕ) (ts : Tokens) (why : Refusal) (at : ℕ) → repeat (λ l. test (kind l)) step n a ts ≡ Err (why, at) → Begins end (MoreSteps Step a) (drop n ts) at
+    unfolding repeat
+    begins_chain a n [] why at h = absurd cc
+    begins_chain a (suc n) (t ∷ ts) why at h = begins_chain a n ts why at h
+    begins_chain a zero (t ∷ ts) why at h = by (λ b m e. begins_chain b m ts why at e) (chosen (test t.kind) _ _ _ h)
+      where
+        drop_less : (k : ℕ) → 1 ≤ k → drop (k - 1) ts ≡ drop k (t ∷ ts)
+        drop_less zero h = absurd (omega arith)
+        drop_less (suc k) h = let e : suc k - 1 ≡ k = omega arith in ap (λ z. drop z ts) e
+
+        go : ((b : FromTree) (m : ℕ) → repeat (λ l. test (kind l)) step m b ts ≡ Err (why, at) → Begins end (MoreSteps Step b) (drop m ts) at) → test t.kind ≡ true
+            → (r : Read FromTree) → step a (t ∷ ts) ≡ r → onward r (λ b m. repeat (λ l. test (kind l)) step (m - 1) b ts) ≡ Err (why, at) → Begins end (MoreSteps Step a) (t ∷ ts) at
+        go ih holds (Err x) is e =
+            let same : x ≡ (why, at) = cc in
+            begins_as (Any (Step a)) (MoreSteps Step a) (t ∷ ts) at (λ l (g, p). (1, g, (g, (l, [], sym (append-nil l), p, (refl, refl)))))
+            (begins a (t ∷ ts) why at holds (is ∙ (λ i. Err (same i))))
+        go ih holds (Ok x) is e =
+            let took = sound a (t ∷ ts) x.0 x.1 holds is in
+            let one : 1 ≤ x.1 = some a x.0 (t ∷ ts) x.1 took in
+            let behind = ih x.0 (x.1 - 1) (plus_err x.1 (repeat (λ l. test (kind l)) step (x.1 - 1) x.0 ts) (why, at) e) in
+            begins_as (Seq (Step a x.0) (MoreSteps Step x.0)) (MoreSteps Step a) (t ∷ ts) at (λ l (b, c, k, p, (m, f, q)). (suc m, f, (x.0, (b, c, k, p, q))))
+            (begins_then (Step a x.0) (MoreSteps Step x.0) (t ∷ ts) x.1 at took (subst (λ l. Begins end (MoreSteps Step x.0) l at) (drop_less x.1 one) behind))
+
+        by : ((b : FromTree) (m : ℕ) → repeat (λ l. test (kind l)) step m b ts ≡ Err (why, at) → Begins end (MoreSteps Step b) (drop m ts) at)
+            → ((test t.kind ≡ true) × (onward (step a (t ∷ ts)) (λ b m. repeat (λ l. test (kind l)) step (m - 1) b ts) ≡ Err (why, at)))
+            ⊎ ((test t.kind ≡ false) × (◌≡◌ {A = Read FromTree} (Ok (a, 0)) (Err (why, at)))) → Begins end (MoreSteps Step a) (t ∷ ts) at
+        by ih (inl p) = go ih p.0 (step a (t ∷ ts)) refl p.1
+        by ih (inr p) = absurd cc

@@ -8,18 +8,21 @@ use Rattle.wt_ast.specs.declared.tree.CmpWord.TheVariants as cmp
 use Rattle.wt_ast.specs.declared.tree.Scalar.{Scalar}
 use Rattle.wt_ast.specs.declared.tree.Scalar.TheVariants as scalar
 use Rattle.wt_ast.specs.Tree.{CondTree, compare, is_null, is_not_null, in_list, in_query, all_of, any_of, negated}
-use Rattle.wt_grammar.specs.declared.lexeme.Kind.TheVariants.{Key, Mark}
-use Rattle.wt_grammar.specs.declared.lexeme.Word.TheVariants as words
-use Rattle.wt_grammar.specs.declared.lexeme.Lexeme.{Lexeme}
+use Rattle.wt_reading.specs.declared.lexeme.Kind.TheVariants.{Key, Mark}
+use Rattle.wt_lex.specs.declared.words.Word.TheVariants as words
+use Rattle.wt_reading.specs.declared.lexeme.Lexeme.{Lexeme}
 use Rattle.wt_grammar.specs.declared.fault.QueryFault.TheVariants as fault
-use Rattle.wt_grammar.specs.Lexemes.{Tokens, kind, place, is_and, is_or, is_not, is_select, is_between, is_is, is_null_word, is_in, is_open}
+use Rattle.wt_reading.specs.Lexemes.{Tokens, kind, place, is_open}
+use Rattle.wt_grammar.specs.Kinds.{is_and, is_or, is_not, is_select, is_between, is_is, is_null_word, is_in}
 use Rattle.wt_grammar.specs.Refusals.{syntax, no_negated}
 use Rattle.wt_grammar.specs.Reading as read
-use Rattle.wt_grammar.specs.Reading.{Read, Refusal, refused, Nest, plus, followed, expect, cmp_of, between_of, opens_tuple}
-use Rattle.wt_sentence.specs.Grammar.{Seq, One, Is, Listed, Parens, Column, AnyLiteral, Operand, Deeper}
+use Rattle.wt_reading.specs.Readings.{plus, followed, expect, list}
+use Rattle.wt_grammar.specs.Reading.{Read, Refusal, refused, refusal, Nest, cmp_of, between_of, opens_tuple}
+use Rattle.wt_reading.specs.Sentences.{Seq, One, Is, Listed, Parens}
+use Rattle.wt_sentence.specs.Grammar.{Column, AnyLiteral, Operand, Deeper}
 use Rattle.wt_sentence.specs.Grammar as spec
-use Rattle.wt_sentence.proofs.Inversions.{chosen}
-use Rattle.wt_sentence.proofs.Took.{Took, Sound, took_is, list_sound}
+use Rattle.wt_reading.proofs.Inversions.{chosen}
+use Rattle.wt_reading.proofs.Took.{Took, Sound, took_is, list_sound}
 use Rattle.wt_sentence.proofs.SoundParts.{column_sound, operand_sound, literal_sound}
 use Rattle.wt_sentence.proofs.SoundQueries.{SoundBelow, listed_sound, neg_sound, conj_sound}
 use Rattle.wt_viable.proofs.Begins.{Any, Ending, Begins, Viable, token_of, a_token, then_ending, as_ending, listed_one, run_one, plus_err, last_err, err_parts, begins_at_front, begins_then, begins_as, begins_followed, begins_expect, begins_expected, begins_within, begins_list, begins_run}
@@ -66,7 +69,7 @@ module _ (end : ℕ) (bytes : List ℕ) where
   unfolding read.between
   between_begins a x word ts why at h =
       begins_followed end (Operand end bytes) (λ _. Seq (Is is_and) (Any (Operand end bytes))) ts (read.operand end bytes ts)
-      (λ low rest. followed rest (expect end is_and syntax rest) (λ _ r. followed r (read.operand end bytes r) (λ high q. Ok (between_of a x low high word, 0)))) why at
+      (λ low rest. followed rest (expect (λ l. is_and (kind l)) (refusal end syntax) rest) (λ _ r. followed r (read.operand end bytes r) (λ high q. Ok (between_of a x low high word, 0)))) why at
       (operand_begins end bytes ts why at) (operand_sound end bytes ts) (λ _. upper)
       (λ low l e. begins_expected end is_and (Key words.And) syntax (Any (Operand end bytes)) l (λ r. followed r (read.operand end bytes r) (λ high q. Ok (between_of a x low high word, 0))) why at refl refl
       (an_operand end bytes) (λ r e. operand_begins end bytes r why at (last_err r (read.operand end bytes r) (λ high. between_of a x low high word) (why, at) e)) e) h
@@ -82,10 +85,10 @@ module _ (end : ℕ) (bytes : List ℕ) where
             begins_as end (Seq (Is is_not) (Is is_null_word)) Nullness ts at (λ l z. inr z)
             (begins_then end (Is is_not) (Is is_null_word) ts 1 at (took_is is_not ts refl p.0)
             (begins_expect end is_null_word (Key words.Null) syntax (drop 1 ts) why at refl
-            (last_err (drop 1 ts) (expect end is_null_word syntax (drop 1 ts)) (λ _. is_not_null a k) (why, at) (plus_err 1 _ (why, at) p.1))))
+            (last_err (drop 1 ts) (expect (λ l. is_null_word (kind l)) (refusal end syntax) (drop 1 ts)) (λ _. is_not_null a k) (why, at) (plus_err 1 _ (why, at) p.1))))
         | inr p ↦
             begins_as end (Is is_null_word) Nullness ts at (λ l z. inl z)
-            (begins_expect end is_null_word (Key words.Null) syntax ts why at refl (last_err ts (expect end is_null_word syntax ts) (λ _. is_null a k) (why, at) p.1))
+            (begins_expect end is_null_word (Key words.Null) syntax ts why at refl (last_err ts (expect (λ l. is_null_word (kind l)) (refusal end syntax) ts) (λ _. is_null a k) (why, at) p.1))
       ]
 
   module _ (d : Deeper) where
@@ -162,7 +165,7 @@ module _ (end : ℕ) (bytes : List ℕ) where
       listed_begins Part part part_sound part_begins one ts why at opens h =
           elim (chosen ns.room _ _ _ h) [
             | inl p ↦
-                begins_within end (Listed Part) (read.list part) (λ _. syntax) ts why at opens (begins_list end Part part part_sound part_begins (drop 1 ts) why at)
+                begins_within end (Listed Part) (list part) (λ _. syntax) ts why at opens (begins_list end Part part part_sound part_begins (drop 1 ts) why at)
                 (list_sound Part part part_sound (drop 1 ts)) p.1
             | inr p ↦
                 begins_at_front end (Any (Parens (Listed Part))) ts (refused fault.TooDeep) why at

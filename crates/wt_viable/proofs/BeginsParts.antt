@@ -8,17 +8,20 @@ use Rattle.wt_lex.specs.declared.token.LexFault.TheVariants.{NumberRange}
 use Rattle.wt_ast.specs.declared.tree.ColumnName.{ColumnName}
 use Rattle.wt_ast.specs.declared.tree.Item.TheVariants as items
 use Rattle.wt_ast.specs.declared.tree.Scalar.TheVariants as scalar
-use Rattle.wt_grammar.specs.declared.lexeme.Kind.{Kind}
-use Rattle.wt_grammar.specs.declared.lexeme.Kind.TheVariants.{Name, Number, Text, Mark}
+use Rattle.wt_reading.specs.declared.lexeme.Kind.{Kind}
+use Rattle.wt_reading.specs.declared.lexeme.Kind.TheVariants.{Name, Number, Text, Mark}
 use Rattle.wt_grammar.specs.declared.fault.QueryFault.{QueryFault}
 use Rattle.wt_grammar.specs.declared.fault.QueryFault.TheVariants as fault
-use Rattle.wt_grammar.specs.Lexemes.{Tokens, kind, place, is_name, is_open, is_dot, is_star, is_as}
+use Rattle.wt_reading.specs.Lexemes.{Tokens, kind, place, is_name, is_open}
+use Rattle.wt_grammar.specs.Kinds.{is_dot, is_star, is_as}
 use Rattle.wt_grammar.specs.Refusals.{beyond, no_operand, no_item, no_literal}
-use Rattle.wt_grammar.specs.Reading.{Read, Refusal, refused, odd, followed, name, column, operand, operand_by, literal, literal_by, alias, item, item_front, ended, ended_by, unsigned, negative, negative_by, listed_negative, name_at, text_at, name_only}
-use Rattle.wt_sentence.specs.Grammar.{Seq, One, Is, Column, AnyLiteral, Operand, Alias, IsItem}
+use Rattle.wt_reading.specs.Readings.{followed}
+use Rattle.wt_grammar.specs.Reading.{Read, Refusal, refused, odd, name, column, operand, operand_by, literal, literal_by, alias, item, item_front, ended, ended_by, unsigned, negative, negative_by, listed_negative, name_at, text_at, name_only}
+use Rattle.wt_reading.specs.Sentences.{Seq, One, Is}
+use Rattle.wt_sentence.specs.Grammar.{Column, AnyLiteral, Operand, Alias, IsItem}
 use Rattle.wt_sentence.specs.Grammar as spec
-use Rattle.wt_sentence.proofs.Inversions.{chosen}
-use Rattle.wt_sentence.proofs.Took.{Sound, took_as, took_is}
+use Rattle.wt_reading.proofs.Inversions.{chosen}
+use Rattle.wt_reading.proofs.Took.{Sound, took_as, took_is}
 use Rattle.wt_sentence.proofs.SoundParts.{named, column_sound, operand_by_sound, front_sound}
 use Rattle.wt_viable.proofs.Begins.{Any, Ending, Begins, Viable, token_of, as_ending, ok_no_err, plus_err, followed_err, last_err, err_parts, begins_here, begins_at_front, begins_behind, begins_then, begins_as, begins_followed}
 

@@ -1,24 +1,28 @@
 -- The tokens before a refusal begin a sentence: FROM and queries.
-use Rattle.std.proofs.Common.{◌≡◌, ℕ, suc, zero, ◌-◌, ◌≤◌, ◌⊎◌, inl, inr, Bool, true, false, List, [], ◌∷◌, ◌++◌, drop, refl, ap, sym, ◌∙◌, arith, append-nil, Ok, Err, Some, None, subst}
+use Rattle.std.proofs.Common.{◌≡◌, ℕ, inl, inr, Bool, true, false, List, [], ◌++◌, drop, refl, sym, append-nil, Ok, Err, Some, None}
 use Rattle.wt_ast.specs.declared.tree.Item.{Item}
-use Rattle.wt_ast.specs.Tree.{QueryTree, FromTree, select, no_filter, filter_by, table, derived}
-use Rattle.wt_grammar.specs.declared.lexeme.Kind.TheVariants.{Key}
-use Rattle.wt_grammar.specs.declared.lexeme.Word.TheVariants as words
-use Rattle.wt_grammar.specs.declared.lexeme.JoinKind.{JoinKind}
-use Rattle.wt_grammar.specs.declared.lexeme.JoinKind.TheVariants as joining
+use Rattle.wt_ast.specs.Tree.{QueryTree, FromTree, select, no_filter, filter_by, table, derived, comma}
+use Rattle.wt_reading.specs.declared.lexeme.Kind.{Kind}
+use Rattle.wt_reading.specs.declared.lexeme.Kind.TheVariants.{End, Key}
+use Rattle.wt_lex.specs.declared.words.Word.TheVariants as words
+use Rattle.wt_grammar.specs.declared.join.JoinKind.{JoinKind}
+use Rattle.wt_grammar.specs.declared.join.JoinKind.TheVariants as joining
 use Rattle.wt_grammar.specs.declared.fault.QueryFault.TheVariants as fault
-use Rattle.wt_grammar.specs.Lexemes.{Tokens, kind, place, is_select, is_distinct, is_all, is_from, is_where, is_as, is_inner, is_left, is_outer, is_join, is_on, is_open, is_name, begins_join}
+use Rattle.wt_reading.specs.Lexemes.{Tokens, kind, place, is_open, is_name, is_comma}
+use Rattle.wt_grammar.specs.Kinds.{is_select, is_distinct, is_all, is_from, is_where, is_as, is_inner, is_left, is_right, is_outer, is_join, is_on, begins_join}
 use Rattle.wt_grammar.specs.Refusals.{syntax, no_join}
 use Rattle.wt_grammar.specs.Reading as read
-use Rattle.wt_grammar.specs.Reading.{Read, Refusal, refused, Nest, plus, followed, expect, chain, made, taken, join_of, name_only, place_or}
-use Rattle.wt_sentence.specs.Grammar.{Seq, Is, Listed, Named, Alias, IsItem, Deeper}
+use Rattle.wt_reading.specs.Readings.{followed, expect, list, repeat}
+use Rattle.wt_grammar.specs.Reading.{Read, Refusal, refused, refusal, Nest, join_of, name_only, place_or}
+use Rattle.wt_reading.specs.Sentences.{Seq, Is, Listed, Parens}
+use Rattle.wt_sentence.specs.Grammar.{Named, Alias, IsItem, Deeper}
 use Rattle.wt_sentence.specs.Grammar as spec
-use Rattle.wt_sentence.proofs.Inversions.{chosen}
-use Rattle.wt_sentence.proofs.Took.{took_is, list_sound}
-use Rattle.wt_sentence.proofs.Follows.{left_begins}
+use Rattle.wt_reading.proofs.Inversions.{chosen}
+use Rattle.wt_reading.proofs.Took.{took_is, list_sound}
+use Rattle.wt_sentence.proofs.Follows.{right_begins}
 use Rattle.wt_sentence.proofs.SoundParts.{any_name_sound, item_sound}
-use Rattle.wt_sentence.proofs.SoundQueries.{SoundBelow, derived_name_sound, primary_sound, words_sound, join_sound, join_some, joined_sound, quantifier_sound}
-use Rattle.wt_viable.proofs.Begins.{Any, Ending, Begins, Viable, a_token, then_ending, as_ending, listed_one, ok_no_err, plus_err, last_err, begins_at_front, begins_then, begins_as, begins_followed, begins_expect, begins_expected, begins_list}
+use Rattle.wt_sentence.proofs.SoundQueries.{SoundBelow, derived_name_sound, primary_sound, words_sound, join_sound, join_some, joined_sound, listed_part_sound, listed_part_some, from_list_sound, quantifier_sound}
+use Rattle.wt_viable.proofs.Begins.{MoreSteps, no_steps, begins_chain, Any, Ending, Begins, Viable, a_token, then_ending, as_ending, listed_one, ok_no_err, plus_err, last_err, begins_at_front, begins_then, begins_as, begins_followed, begins_expect, begins_expected, begins_list}
 use Rattle.wt_viable.proofs.BeginsParts.{a_name, no_alias, an_item, name_begins, alias_begins, item_begins}
 use Rattle.wt_viable.proofs.BeginsConditions.{BeginsBelow, a_cond, listed_begins, cond_begins}
 
@@ -48,31 +52,40 @@ module _ (end : ℕ) (bytes : List ℕ) where
       ]
 
   module _ (d : Deeper) where
+    join_next : (l : Tokens) (k : JoinKind) (why : Refusal) (at : ℕ) → followed l (expect (λ l. is_join (kind l)) (refusal end syntax) l) (λ _ rest. Ok (k, 0)) ≡ Err (why, at) → Begins end (Is is_join) l at
+    join_next l k why at e = begins_expect end is_join (Key words.Join) syntax l why at refl (last_err l (expect (λ l. is_join (kind l)) (refusal end syntax) l) (λ _. k) (why, at) e)
+
+    outer_begin : (side : Kind → Bool) (k : JoinKind) (ts : Tokens) (why : Refusal) (at : ℕ) → side End ≡ false → side (kind ts) ≡ true → read.outer_join end k (drop 1 ts) ≡ Err (why, at)
+        → Begins end (spec.Outer end bytes d side) ts at
+    unfolding read.outer_join
+    outer_begin side k ts why at none is e =
+        elim (chosen (is_outer (kind (drop 1 ts))) _ _ _ e) [
+          | inl r ↦
+              begins_as end (Seq (Is side) (Seq (Is is_outer) (Is is_join))) (spec.Outer end bytes d side) ts at (λ l z. inr z)
+              (begins_then end (Is side) (Seq (Is is_outer) (Is is_join)) ts 1 at (took_is side ts none is)
+              (begins_then end (Is is_outer) (Is is_join) (drop 1 ts) 1 at (took_is is_outer (drop 1 ts) refl r.0) (join_next (drop 1 (drop 1 ts)) k why at (plus_err 1 _ (why, at) r.1))))
+          | inr r ↦
+              begins_as end (Seq (Is side) (Is is_join)) (spec.Outer end bytes d side) ts at (λ l z. inl z)
+              (begins_then end (Is side) (Is is_join) ts 1 at (took_is side ts none is) (join_next (drop 1 ts) k why at r.1))
+        ]
+
     words_begin : (ts : Tokens) (why : Refusal) (at : ℕ) → begins_join (kind ts) ≡ true → read.join_words end ts ≡ Err (why, at) → Begins end (Any (spec.JoinWords end bytes d)) ts at
-    unfolding read.join_words read.outer_join
+    unfolding read.join_words
     words_begin ts why at begins h =
         elim (chosen (is_join (kind ts)) _ _ _ h) [
           | inl p ↦ absurd (ok_no_err p.1)
           | inr p ↦ elim (chosen (is_inner (kind ts)) _ _ _ p.1) [
             | inl q ↦
                 begins_as end (Seq (Is is_inner) (Is is_join)) (Any (spec.JoinWords end bytes d)) ts at (λ l z. (joining.Inner, inr (inl (z, refl))))
-                (begins_then end (Is is_inner) (Is is_join) ts 1 at (took_is is_inner ts refl q.0) (join_next (drop 1 ts) joining.Inner (plus_err 1 _ (why, at) q.1)))
-            | inr q ↦
-                let left = took_is is_left ts refl (left_begins (kind ts) begins p.0 q.0) in
-                elim (chosen (is_outer (kind (drop 1 ts))) _ _ _ (plus_err 1 _ (why, at) q.1)) [
-                  | inl r ↦
-                      begins_as end (Seq (Is is_left) (Seq (Is is_outer) (Is is_join))) (Any (spec.JoinWords end bytes d)) ts at (λ l z. (joining.Left, inr (inr (inr (z, refl)))))
-                      (begins_then end (Is is_left) (Seq (Is is_outer) (Is is_join)) ts 1 at left
-                      (begins_then end (Is is_outer) (Is is_join) (drop 1 ts) 1 at (took_is is_outer (drop 1 ts) refl r.0) (join_next (drop 1 (drop 1 ts)) joining.Left (plus_err 1 _ (why, at) r.1))))
-                  | inr r ↦
-                      begins_as end (Seq (Is is_left) (Is is_join)) (Any (spec.JoinWords end bytes d)) ts at (λ l z. (joining.Left, inr (inr (inl (z, refl)))))
-                      (begins_then end (Is is_left) (Is is_join) ts 1 at left (join_next (drop 1 ts) joining.Left r.1))
-                ]
+                (begins_then end (Is is_inner) (Is is_join) ts 1 at (took_is is_inner ts refl q.0) (join_next (drop 1 ts) joining.Inner why at (plus_err 1 _ (why, at) q.1)))
+            | inr q ↦ elim (chosen (is_left (kind ts)) _ _ _ q.1) [
+              | inl r ↦ begins_as end (spec.Outer end bytes d is_left) (Any (spec.JoinWords end bytes d)) ts at (λ l z. (joining.Left, inr (inr (inl (z, refl)))))
+                  (outer_begin is_left joining.Left ts why at refl r.0 (plus_err 1 _ (why, at) r.1))
+              | inr r ↦ begins_as end (spec.Outer end bytes d is_right) (Any (spec.JoinWords end bytes d)) ts at (λ l z. (joining.Right, inr (inr (inr (z, refl)))))
+                  (outer_begin is_right joining.Right ts why at refl (right_begins (kind ts) begins p.0 q.0 r.0) (plus_err 1 _ (why, at) r.1))
+            ]
           ]
         ]
-      where
-        join_next : (l : Tokens) (k : JoinKind) → followed l (expect end is_join syntax l) (λ _ rest. Ok (k, 0)) ≡ Err (why, at) → Begins end (Is is_join) l at
-        join_next l k e = begins_expect end is_join (Key words.Join) syntax l why at refl (last_err l (expect end is_join syntax l) (λ _. k) (why, at) e)
 
     -- ---- short sentences
 
@@ -87,12 +100,11 @@ module _ (end : ℕ) (bytes : List ℕ) where
         as_ending (Any (spec.Name end bytes)) (Any (spec.Primary end bytes d))
         (λ l (n, (at, p)). (table n None at at, inl (n, at, None, (l, [], sym (append-nil l), p, inl (refl, refl)), refl))) (a_name end bytes)
 
-    -- more joins to the right of what stands before
     abbrev pub MoreJoins : FromTree → Tokens → Type 0
-    MoreJoins a l = (m : ℕ) × (f : FromTree) × spec.Joins end bytes d m a f l
+    MoreJoins = MoreSteps end (spec.Join end bytes d)
 
-    no_joins : (a : FromTree) → Ending (MoreJoins a)
-    no_joins a = ([], (0, a, (refl, refl)))
+    abbrev pub MoreItems : FromTree → Tokens → Type 0
+    MoreItems = MoreSteps end (spec.ListedPart end bytes d)
 
     joined_of : (l : Tokens) → (a : FromTree) × Seq (spec.Primary end bytes d a) (MoreJoins a) l → Any (spec.Joined end bytes d) l
     joined_of l (a, (b, c, e, p, (m, f, q))) = (f, (a, m, (b, c, e, p, q)))
@@ -100,11 +112,17 @@ module _ (end : ℕ) (bytes : List ℕ) where
     pub a_joined : Ending (Any (spec.Joined end bytes d))
     a_joined = let (l, (a, p)) = a_primary in (l, joined_of l (a, (l, [], sym (append-nil l), p, (0, a, (refl, refl)))))
 
+    list_of : (l : Tokens) → (a : FromTree) × Seq (spec.Joined end bytes d a) (MoreItems a) l → Any (spec.FromList end bytes d) l
+    list_of l (a, (b, c, e, p, (m, f, q))) = (f, (a, m, (b, c, e, p, q)))
+
+    a_list : Ending (Any (spec.FromList end bytes d))
+    a_list = let (l, (a, p)) = a_joined in (l, list_of l (a, (l, [], sym (append-nil l), p, (0, a, (refl, refl)))))
+
     abbrev pub Source : Tokens → Type 0
-    Source l = (f : FromTree) × Seq (spec.Joined end bytes d f) (Any (spec.Filter end bytes d)) l
+    Source l = (f : FromTree) × Seq (spec.FromList end bytes d f) (Any (spec.Filter end bytes d)) l
 
     a_source : Ending Source
-    a_source = let (l, (f, p)) = a_joined in (l, (f, (l, [], sym (append-nil l), p, (no_filter, inl (refl, refl)))))
+    a_source = let (l, (f, p)) = a_list in (l, (f, (l, [], sym (append-nil l), p, (no_filter, inl (refl, refl)))))
 
     abbrev pub Selection : Tokens → Type 0
     Selection l = (xs : List Item) × Seq (Listed (IsItem end bytes) xs) (Seq (Is is_from) Source) l
@@ -138,7 +156,7 @@ module _ (end : ℕ) (bytes : List ℕ) where
       columns_begin ts why at h =
           elim (chosen (is_open (kind ts)) _ _ _ h) [
             | inl p ↦
-                begins_as end (Any (spec.Parens (Listed (spec.Name end bytes)))) (Any (spec.Columns end bytes d)) ts at (λ l (xs, z). (Some xs, inr (xs, below.room, z, refl)))
+                begins_as end (Any (Parens (Listed (spec.Name end bytes)))) (Any (spec.Columns end bytes d)) ts at (λ l (xs, z). (Some xs, inr (xs, below.room, z, refl)))
                 (listed_begins end bytes d ns sound below (spec.Name end bytes) (read.name end bytes) (any_name_sound end bytes) (name_begins end bytes) (a_name end bytes) ts why at p.0
                 (last_err ts (read.listed end bytes ns (read.name end bytes) ts) (λ xs. Some xs) (why, at) p.1))
             | inr p ↦ absurd (ok_no_err p.1)
@@ -200,10 +218,10 @@ module _ (end : ℕ) (bytes : List ℕ) where
       a_right : Ending Right
       a_right = let (l, (b, p)) = a_primary in let (m, q) = a_condition in (l ++ m, (b, (l, m, refl, p, q)))
 
-      join_begins : (a : FromTree) (ts : Tokens) (why : Refusal) (at : ℕ) → begins_join (kind ts) ≡ true → read.join end bytes ns a ts ≡ Err (why, at)
+      join_begins : (inside : Bool) (a : FromTree) (ts : Tokens) (why : Refusal) (at : ℕ) → begins_join (kind ts) ≡ true → read.join end bytes ns inside a ts ≡ Err (why, at)
           → Begins end (Any (spec.Join end bytes d a)) ts at
       unfolding read.join
-      join_begins a ts why at begins h =
+      join_begins inside a ts why at begins h =
           begins_as end (λ l. (k : JoinKind) × Seq (spec.JoinWords end bytes d k) Right l) (Any (spec.Join end bytes d a)) ts at
           (λ l (k, (a0, b0, e0, w, (b, (a1, b1, e1, p, (a2, b2, e2, (t, f, s), (c, q)))))).
           (join_of k a b c t.token.start, (k, b, t.token.start, c, (a0, b0, e0, w, (a1, b1, e1, p, (a2, b2, e2, (t, f, (s, refl)), q))), refl)))
@@ -211,46 +229,36 @@ module _ (end : ℕ) (bytes : List ℕ) where
           (λ k m e. words_sound end bytes ns d sound ts k m begins e) (λ _. a_right)
           (λ k l e. begins_followed end (spec.Primary end bytes d) (λ _. Condition) l (read.primary end bytes ns l) _ why at (primary_begins l why at)
           (primary_sound end bytes ns d sound l) (λ _. a_condition)
-          (λ b r e. begins_expected end is_on (Key words.On) no_join (Any (spec.Cond end bytes d)) r (λ q. followed q (read.cond end bytes ns q) (λ c p. Ok (join_of k a b c (place end r), 0))) why at
+          (λ b r e. begins_expected end is_on (Key words.On) (no_join inside) (Any (spec.Cond end bytes d)) r (λ q. followed q (read.cond end bytes ns q) (λ c p. Ok (join_of k a b c (place end r), 0))) why at
           refl refl (a_cond end bytes d)
           (λ q e. cond_begins end bytes d ns sound below q why at (last_err q (read.cond end bytes ns q) (λ c. join_of k a b c (place end r)) (why, at) e)) e) e) h)
 
-      -- joins to the right; the number counts the tokens that still belong to what stands before
-      joins_begin : (a : FromTree) (n : ℕ) (ts : Tokens) (why : Refusal) (at : ℕ) → read.joins end bytes ns a n ts ≡ Err (why, at) → Begins end (MoreJoins a) (drop n ts) at
-      unfolding read.joins
-      joins_begin a n [] why at h = absurd cc
-      joins_begin a (suc n) (t ∷ ts) why at h = joins_begin a n ts why at h
-      joins_begin a zero (t ∷ ts) why at h = by (λ b m e. joins_begin b m ts why at e) (chosen (begins_join t.kind) _ _ _ h)
-        where
-          drop_less : (k : ℕ) → 1 ≤ k → drop (k - 1) ts ≡ drop k (t ∷ ts)
-          drop_less zero h = absurd (omega arith)
-          drop_less (suc k) h = let e : suc k - 1 ≡ k = omega arith in ap (λ z. drop z ts) e
-
-          go : ((b : FromTree) (m : ℕ) → read.joins end bytes ns b m ts ≡ Err (why, at) → Begins end (MoreJoins b) (drop m ts) at) → begins_join t.kind ≡ true
-              → (r : Read FromTree) → read.join end bytes ns a (t ∷ ts) ≡ r → chain r (read.joins end bytes ns (made a r) (taken r - 1) ts) ≡ Err (why, at) → Begins end (MoreJoins a) (t ∷ ts) at
-          go ih begins (Err x) is e =
-              let same : x ≡ (why, at) = cc in
-              begins_as end (Any (spec.Join end bytes d a)) (MoreJoins a) (t ∷ ts) at (λ l (g, p). (1, g, (g, (l, [], sym (append-nil l), p, (refl, refl)))))
-              (join_begins a (t ∷ ts) why at begins (is ∙ (λ i. Err (same i))))
-          go ih begins (Ok x) is e =
-              let took = join_sound end bytes ns d sound a (t ∷ ts) x.0 x.1 begins is in
-              let some : 1 ≤ x.1 = join_some end bytes ns d sound a x.0 (t ∷ ts) x.1 took in
-              let behind = ih x.0 (x.1 - 1) (plus_err x.1 (read.joins end bytes ns x.0 (x.1 - 1) ts) (why, at) e) in
-              begins_as end (Seq (spec.Join end bytes d a x.0) (MoreJoins x.0)) (MoreJoins a) (t ∷ ts) at (λ l (b, c, k, p, (m, f, q)). (suc m, f, (x.0, (b, c, k, p, q))))
-              (begins_then end (spec.Join end bytes d a x.0) (MoreJoins x.0) (t ∷ ts) x.1 at took (subst (λ l. Begins end (MoreJoins x.0) l at) (drop_less x.1 some) behind))
-
-          by : ((b : FromTree) (m : ℕ) → read.joins end bytes ns b m ts ≡ Err (why, at) → Begins end (MoreJoins b) (drop m ts) at)
-              → ((begins_join t.kind ≡ true) × (chain (read.join end bytes ns a (t ∷ ts)) (read.joins end bytes ns (made a (read.join end bytes ns a (t ∷ ts))) (taken (read.join end bytes ns a (t ∷ ts)) - 1) ts) ≡ Err (why, at)))
-              ⊎ ((begins_join t.kind ≡ false) × (◌≡◌ {A = Read FromTree} (Ok (a, 0)) (Err (why, at)))) → Begins end (MoreJoins a) (t ∷ ts) at
-          by ih (inl p) = go ih p.0 (read.join end bytes ns a (t ∷ ts)) refl p.1
-          by ih (inr p) = absurd cc
-
-      pub joined_begins : Viable end (Any (spec.Joined end bytes d)) (read.joined end bytes ns)
+      pub joined_begins : (inside : Bool) → Viable end (Any (spec.Joined end bytes d)) (read.joined end bytes ns inside)
       unfolding read.joined
-      joined_begins ts why at h =
+      joined_begins inside ts why at h =
           begins_as end (λ l. (a : FromTree) × Seq (spec.Primary end bytes d a) (MoreJoins a) l) (Any (spec.Joined end bytes d)) ts at joined_of
-          (begins_followed end (spec.Primary end bytes d) MoreJoins ts (read.primary end bytes ns ts) (λ a rest. read.joins end bytes ns a 0 rest) why at (primary_begins ts why at)
-          (primary_sound end bytes ns d sound ts) no_joins (λ a l e. joins_begin a 0 l why at e) h)
+          (begins_followed end (spec.Primary end bytes d) MoreJoins ts (read.primary end bytes ns ts) (λ a rest. repeat (λ l. begins_join (kind l)) (read.join end bytes ns inside) 0 a rest) why at (primary_begins ts why at)
+          (primary_sound end bytes ns d sound ts) (no_steps end (spec.Join end bytes d))
+          (λ a l e. begins_chain end begins_join (spec.Join end bytes d) (read.join end bytes ns inside) (join_sound end bytes ns d sound inside) (join_some end bytes ns d sound) (join_begins inside) a 0 l why at e) h)
+
+      -- ---- the list of FROM
+
+      listed_part_begins : (a : FromTree) (ts : Tokens) (why : Refusal) (at : ℕ) → is_comma (kind ts) ≡ true → read.listed_part end bytes ns a ts ≡ Err (why, at)
+          → Begins end (Any (spec.ListedPart end bytes d a)) ts at
+      unfolding read.listed_part
+      listed_part_begins a ts why at is h =
+          begins_as end (Seq (Is is_comma) (Any (spec.Joined end bytes d))) (Any (spec.ListedPart end bytes d a)) ts at
+          (λ l (b, c, e, (t, f, s), (g, p)). (comma a g t.token.start, (g, t.token.start, (b, c, e, (t, f, (s, refl)), p), refl)))
+          (begins_then end (Is is_comma) (Any (spec.Joined end bytes d)) ts 1 at (took_is is_comma ts refl is)
+          (joined_begins false (drop 1 ts) why at (last_err (drop 1 ts) (read.joined end bytes ns false (drop 1 ts)) (λ b. comma a b (place end ts)) (why, at) (plus_err 1 _ (why, at) h))))
+
+      from_list_begins : Viable end (Any (spec.FromList end bytes d)) (read.from_list end bytes ns)
+      unfolding read.from_list
+      from_list_begins ts why at h =
+          begins_as end (λ l. (a : FromTree) × Seq (spec.Joined end bytes d a) (MoreItems a) l) (Any (spec.FromList end bytes d)) ts at list_of
+          (begins_followed end (spec.Joined end bytes d) MoreItems ts (read.joined end bytes ns false ts) (λ a rest. repeat (λ l. is_comma (kind l)) (read.listed_part end bytes ns) 0 a rest) why at (joined_begins false ts why at)
+          (joined_sound end bytes ns d sound false ts) (no_steps end (spec.ListedPart end bytes d))
+          (λ a l e. begins_chain end is_comma (spec.ListedPart end bytes d) (read.listed_part end bytes ns) (listed_part_sound end bytes ns d sound) (listed_part_some end bytes ns d sound) listed_part_begins a 0 l why at e) h)
 
       -- ---- queries
 
@@ -279,11 +287,11 @@ module _ (end : ℕ) (bytes : List ℕ) where
       body_begins ts why at h =
           begins_as end (λ l. (b : Bool) × Seq (spec.Quantifier end bytes d b) Selection l) (Any (spec.Body end bytes d)) ts at body_of
           (begins_followed end (spec.Quantifier end bytes d) (λ _. Selection) ts (read.quantifier ts) _ why at (λ e. absurd (no_refusal ts why at e)) (quantifier_sound end bytes ns d sound ts) (λ _. a_selection)
-          (λ b l e. begins_followed end (Listed (IsItem end bytes)) (λ _. Seq (Is is_from) Source) l (read.list (read.item end bytes) l) _ why at
+          (λ b l e. begins_followed end (Listed (IsItem end bytes)) (λ _. Seq (Is is_from) Source) l (list (read.item end bytes) l) _ why at
           (begins_list end (IsItem end bytes) (read.item end bytes) (item_sound end bytes) (item_begins end bytes) l why at)
           (list_sound (IsItem end bytes) (read.item end bytes) (item_sound end bytes) l) (λ _. from_source)
           (λ xs r e. begins_expected end is_from (Key words.From) syntax Source r
-          (λ q. followed q (read.joined end bytes ns q) (λ p s. followed s (read.filter end bytes ns s) (λ f o. Ok (select b xs p f, 0)))) why at refl refl a_source
-          (λ q e. begins_followed end (spec.Joined end bytes d) (λ _. Any (spec.Filter end bytes d)) q (read.joined end bytes ns q) _ why at (joined_begins q why at)
-          (joined_sound end bytes ns d sound q) (λ _. no_where)
+          (λ q. followed q (read.from_list end bytes ns q) (λ p s. followed s (read.filter end bytes ns s) (λ f o. Ok (select b xs p f, 0)))) why at refl refl a_source
+          (λ q e. begins_followed end (spec.FromList end bytes d) (λ _. Any (spec.Filter end bytes d)) q (read.from_list end bytes ns q) _ why at (from_list_begins q why at)
+          (from_list_sound end bytes ns d sound q) (λ _. no_where)
           (λ p s e. filter_begins s why at (last_err s (read.filter end bytes ns s) (λ f. select b xs p f) (why, at) e)) e) e) e) h)

@@ -3,16 +3,19 @@ use Rattle.std.proofs.Common.{◌≡◌, ℕ, suc, zero, ◌⊎◌, inl, inr, tr
 use Rattle.std.specs.Prelude.{if◌then◌else◌}
 use Rattle.wt_ast.specs.Tree.{QueryTree, CondTree, negated}
 use Rattle.wt_grammar.specs.declared.fault.QueryFault.TheVariants as fault
-use Rattle.wt_grammar.specs.declared.lexeme.Kind.TheVariants.{Key}
-use Rattle.wt_grammar.specs.declared.lexeme.Word.TheVariants as words
-use Rattle.wt_grammar.specs.Lexemes.{Tokens, kind, place, is_not, is_select, is_end}
+use Rattle.wt_reading.specs.declared.lexeme.Kind.TheVariants.{Key}
+use Rattle.wt_lex.specs.declared.words.Word.TheVariants as words
+use Rattle.wt_reading.specs.Lexemes.{Tokens, kind, place, is_end}
+use Rattle.wt_grammar.specs.Kinds.{is_not, is_select}
 use Rattle.wt_grammar.specs.Refusals.{syntax, no_join, no_statement}
 use Rattle.wt_grammar.specs.Reading as read
-use Rattle.wt_grammar.specs.Reading.{Read, Refusal, refused, Nest, plus, no_query_end}
-use Rattle.wt_sentence.specs.Grammar.{Seq, Is, IsAt, Parens, Deeper, deeper}
+use Rattle.wt_reading.specs.Readings.{plus}
+use Rattle.wt_grammar.specs.Reading.{Read, Refusal, refused, Nest, no_query_end}
+use Rattle.wt_reading.specs.Sentences.{Seq, Is, IsAt, Parens}
+use Rattle.wt_sentence.specs.Grammar.{Deeper, deeper}
 use Rattle.wt_sentence.specs.Grammar as spec
-use Rattle.wt_sentence.proofs.Inversions.{chosen, plus_ok}
-use Rattle.wt_sentence.proofs.Took.{Took, took_is, took_then, took_as}
+use Rattle.wt_reading.proofs.Inversions.{chosen, plus_ok}
+use Rattle.wt_reading.proofs.Took.{Took, took_is, took_then, took_as}
 use Rattle.wt_sentence.proofs.SoundQueries.{SoundBelow, cond_sound, joined_sound, body_sound}
 use Rattle.wt_sentence.proofs.Sound.{sound_below}
 use Rattle.wt_viable.specs.Sentences.{BeginsSome, Parts, IsSentence}
@@ -99,9 +102,9 @@ module _ (end : ℕ) (bytes : List ℕ) where
         queries = λ ts why at is si h. begins_within end (Query (deeper end bytes (suc l))) (λ ts. plus 1 (read.body end bytes (read.nest end bytes l) (drop 1 ts))) no_query_end ts why at is
             (select_begins (read.nest end bytes l) (deeper end bytes (suc l)) sound below (drop 1 ts) why at si)
             (λ q n e. select_sound (read.nest end bytes l) (deeper end bytes (suc l)) sound (drop 1 ts) q n si e) h;
-        froms = λ ts why at is h. begins_within end (spec.Joined end bytes (deeper end bytes (suc l))) (read.joined end bytes (read.nest end bytes l)) (λ _. no_join) ts why at is
-            (joined_begins end bytes (deeper end bytes (suc l)) (read.nest end bytes l) sound below (drop 1 ts) why at)
-            (joined_sound end bytes (read.nest end bytes l) (deeper end bytes (suc l)) sound (drop 1 ts)) h;
+        froms = λ ts why at is h. begins_within end (spec.Joined end bytes (deeper end bytes (suc l))) (read.joined end bytes (read.nest end bytes l) true) (λ _. no_join true) ts why at is
+            (joined_begins end bytes (deeper end bytes (suc l)) (read.nest end bytes l) sound below true (drop 1 ts) why at)
+            (joined_sound end bytes (read.nest end bytes l) (deeper end bytes (suc l)) sound true (drop 1 ts)) h;
         query_behind = λ t opens. parens_behind (Query (deeper end bytes (suc l))) t opens (a_select end bytes (deeper end bytes (suc l)));
       }
 

@@ -6,12 +6,13 @@ use Rattle.wt_ast.specs.declared.tree.Scalar.{Scalar}
 use Rattle.wt_ast.specs.declared.tree.Scalar.TheVariants as scalar
 use Rattle.wt_ast.specs.Tree.{QueryTree, FromTree, CondTree, CondTrees, select, filter_by, derived, in_list, in_query, negated}
 use Rattle.wt_ast.specs.Tree as tree
-use Rattle.wt_grammar.specs.declared.lexeme.Kind.{Kind}
-use Rattle.wt_grammar.specs.declared.fault.QueryFault.{QueryFault}
+use Rattle.wt_reading.specs.declared.lexeme.Kind.{Kind}
 use Rattle.wt_grammar.specs.declared.fault.QueryFault.TheVariants as fault
-use Rattle.wt_grammar.specs.Lexemes.{Tokens, kind, place, is_and, is_or, is_not, is_select, is_where, is_between, is_is, is_in, is_name, is_open, is_close, is_on, is_from, is_end, begins_join}
+use Rattle.wt_reading.specs.Lexemes.{Tokens, kind, place, is_name, is_open, is_close, is_comma, is_end}
+use Rattle.wt_grammar.specs.Kinds.{is_and, is_or, is_not, is_select, is_where, is_between, is_is, is_in, is_on, is_from, begins_join}
 use Rattle.wt_grammar.specs.Refusals.{syntax, no_join}
-use Rattle.wt_grammar.specs.Reading.{Read, refused, plus, followed, taken, joined_to, more, list, run, chain, made, expect, no, of_column, join_of, no_query_end, Nest}
+use Rattle.wt_reading.specs.Readings.{plus, followed, taken, joined_to, more, list, expect, within, onward, repeat}
+use Rattle.wt_grammar.specs.Reading.{Read, Refusal, refused, refusal, run, no, of_column, join_of, no_query_end, Nest}
 use Rattle.wt_grammar.specs.Reading as read
 use Rattle.wt_sentence.proofs.Complete.{statement_with}
 
@@ -64,11 +65,26 @@ module _ {A : Type 0} (sep : Kind → Bool) (part part' : Tokens → Read A) (sa
       steady_next r s f g (inr e) h =
           subst (λ z. Steady (joined_to r (f (taken r))) (joined_to z (g (taken z)))) (sym e) (steady_joined_to r r (f (taken r)) (g (taken r)) (inr refl) (h (taken r)))
 
-pub steady_within : {A : Type 0} (end : ℕ) (part part' : Tokens → Read A) → ((ts : Tokens) → Steady (part ts) (part' ts)) → (other : A → Kind → QueryFault) (ts : Tokens)
-    → Steady (read.within end part other ts) (read.within end part' other ts)
-steady_within end part part' same other ts =
-    steady_plus 1 _ _ (steady_followed (drop 1 ts) (part (drop 1 ts)) (part' (drop 1 ts)) (λ x rest. followed rest (expect end is_close (other x) rest) (λ _ r. Ok (x, 0)))
-    (λ x rest. followed rest (expect end is_close (other x) rest) (λ _ r. Ok (x, 0))) (same (drop 1 ts)) (λ x l. inr refl))
+-- steps, each from what was made before
+pub steady_repeat : (test : Tokens → Bool) (step step' : FromTree → Tokens → Read FromTree) → ((a : FromTree) (ts : Tokens) → Steady (step a ts) (step' a ts)) → (a : FromTree) (n : ℕ) (ts : Tokens)
+    → Steady (repeat test step n a ts) (repeat test step' n a ts)
+unfolding repeat
+steady_repeat test step step' same a n [] = inr refl
+steady_repeat test step step' same a (suc n) (t ∷ ts) = steady_repeat test step step' same a n ts
+steady_repeat test step step' same a zero (t ∷ ts) =
+    steady_if (test (t ∷ ts)) _ _ _ _ (steady_onward (step a (t ∷ ts)) (step' a (t ∷ ts)) (λ b m. repeat test step (m - 1) b ts) (λ b m. repeat test step' (m - 1) b ts) (same a (t ∷ ts))
+    (λ b m. steady_repeat test step step' same b (m - 1) ts)) (inr refl)
+  where
+    steady_onward : (r s : Read FromTree) (f g : FromTree → ℕ → Read FromTree) → Steady r s → ((b : FromTree) (m : ℕ) → Steady (f b m) (g b m)) → Steady (onward r f) (onward s g)
+    steady_onward r s f g (inl (at, e)) h = inl (at, ap (λ z. onward z f) e)
+    steady_onward (Ok x) s f g (inr e) h = subst (λ z. Steady (onward (Ok x) f) (onward z g)) (sym e) (steady_plus x.1 (f x.0 x.1) (g x.0 x.1) (h x.0 x.1))
+    steady_onward (Err x) s f g (inr e) h = inr (ap (λ z. onward z g) e)
+
+pub steady_within : {A : Type 0} (part part' : Tokens → Read A) → ((ts : Tokens) → Steady (part ts) (part' ts)) → (fault : A → Tokens → Refusal × ℕ) (ts : Tokens)
+    → Steady (within part fault ts) (within part' fault ts)
+steady_within part part' same fault ts =
+    steady_plus 1 _ _ (steady_followed (drop 1 ts) (part (drop 1 ts)) (part' (drop 1 ts)) (λ x rest. followed rest (expect (λ l. is_close (kind l)) (fault x) rest) (λ _ r. Ok (x, 0)))
+    (λ x rest. followed rest (expect (λ l. is_close (kind l)) (fault x) rest) (λ _ r. Ok (x, 0))) (same (drop 1 ts)) (λ x l. inr refl))
 
 pub steady_run : (sep : Kind → Bool) (whole : ℕ → CondTrees → CondTree) (part part' : Tokens → Read CondTree) → ((ts : Tokens) → Steady (part ts) (part' ts)) → (ts : Tokens)
     → Steady (run sep whole part ts) (run sep whole part' ts)
@@ -93,8 +109,8 @@ module _ (end : ℕ) (bytes : List ℕ) where
     steady_listed part ts = by ns.room ms.room below.room
       where
         by : (b c : Bool) → (b ≡ true → c ≡ true)
-            → Steady (if b then read.within end (list part) (λ _. syntax) ts else no end fault.TooDeep ts) (if c then read.within end (list part) (λ _. syntax) ts else no end fault.TooDeep ts)
-        by true c h = inr (ap (λ b. if b then read.within end (list part) (λ _. syntax) ts else no end fault.TooDeep ts) (h refl))
+            → Steady (if b then within (list part) (λ _. refusal end syntax) ts else no end fault.TooDeep ts) (if c then within (list part) (λ _. refusal end syntax) ts else no end fault.TooDeep ts)
+        by true c h = inr (ap (λ b. if b then within (list part) (λ _. refusal end syntax) ts else no end fault.TooDeep ts) (h refl))
         by false c h = inl (place end ts, refl)
 
     pub steady_subquery : (at : ℕ) (cs : List ColumnName) (word : ℕ) (ts : Tokens) → Steady (read.subquery end bytes ns at cs word ts) (read.subquery end bytes ms at cs word ts)
@@ -185,36 +201,30 @@ module _ (end : ℕ) (bytes : List ℕ) where
         steady_if (is_name (kind ts)) _ _ _ _ (inr refl)
         (steady_if (is_open (kind ts)) _ _ _ _ (steady_if (is_select (kind (drop 1 ts))) _ _ _ _ (steady_derived ts) (below.froms ts)) (inr refl))
 
-    pub steady_join : (a : FromTree) (ts : Tokens) → Steady (read.join end bytes ns a ts) (read.join end bytes ms a ts)
+    pub steady_join : (inside : Bool) (a : FromTree) (ts : Tokens) → Steady (read.join end bytes ns inside a ts) (read.join end bytes ms inside a ts)
     unfolding read.join
-    steady_join a ts =
+    steady_join inside a ts =
         steady_followed ts (read.join_words end ts) (read.join_words end ts) _ _ (inr refl) (λ k l.
         steady_followed l (read.primary end bytes ns l) (read.primary end bytes ms l) _ _ (steady_primary l) (λ b r.
-        steady_followed r (expect end is_on no_join r) (expect end is_on no_join r) _ _ (inr refl) (λ _ q.
+        steady_followed r (expect (λ l. is_on (kind l)) (refusal end (no_join inside)) r) (expect (λ l. is_on (kind l)) (refusal end (no_join inside)) r) _ _ (inr refl) (λ _ q.
         steady_last q (read.cond end bytes ns q) (read.cond end bytes ms q) (λ c. join_of k a b c (place end r)) (steady_cond q))))
 
-    pub steady_joins : (a : FromTree) (n : ℕ) (ts : Tokens) → Steady (read.joins end bytes ns a n ts) (read.joins end bytes ms a n ts)
-    unfolding read.joins
-    steady_joins a n [] = inr refl
-    steady_joins a (suc n) (t ∷ ts) = steady_joins a n ts
-    steady_joins a zero (t ∷ ts) =
-        steady_if (begins_join t.kind) _ _ _ _ (steady_chain (read.join end bytes ns a (t ∷ ts)) (read.join end bytes ms a (t ∷ ts)) (λ b n. read.joins end bytes ns b n ts)
-        (λ b n. read.joins end bytes ms b n ts) (steady_join a (t ∷ ts)) (λ b n. steady_joins b n ts)) (inr refl)
-      where
-        steady_chain : (r s : Read FromTree) (f g : FromTree → ℕ → Read FromTree) → Steady r s → ((b : FromTree) (n : ℕ) → Steady (f b n) (g b n))
-            → Steady (chain r (f (made a r) (taken r - 1))) (chain s (g (made a s) (taken s - 1)))
-        steady_chain r s f g (inl (at, e)) h = inl (at, ap (λ z. chain z (f (made a z) (taken z - 1))) e)
-        steady_chain r s f g (inr e) h = subst (λ z. Steady (chain r (f (made a r) (taken r - 1))) (chain z (g (made a z) (taken z - 1)))) (sym e) (behind r (h (made a r) (taken r - 1)))
-          where
-            behind : (r : Read FromTree) {p q : Read FromTree} → Steady p q → Steady (chain r p) (chain r q)
-            behind (Ok x) h = steady_plus x.1 _ _ h
-            behind (Err x) h = inr refl
-
-    pub steady_joined : (ts : Tokens) → Steady (read.joined end bytes ns ts) (read.joined end bytes ms ts)
+    pub steady_joined : (inside : Bool) (ts : Tokens) → Steady (read.joined end bytes ns inside ts) (read.joined end bytes ms inside ts)
     unfolding read.joined
-    steady_joined ts =
-        steady_followed ts (read.primary end bytes ns ts) (read.primary end bytes ms ts) (λ a rest. read.joins end bytes ns a 0 rest) (λ a rest. read.joins end bytes ms a 0 rest)
-        (steady_primary ts) (λ a l. steady_joins a 0 l)
+    steady_joined inside ts =
+        steady_followed ts (read.primary end bytes ns ts) (read.primary end bytes ms ts) _ _ (steady_primary ts)
+        (λ a l. steady_repeat (λ l. begins_join (kind l)) (read.join end bytes ns inside) (read.join end bytes ms inside) (steady_join inside) a 0 l)
+
+    pub steady_listed_part : (a : FromTree) (ts : Tokens) → Steady (read.listed_part end bytes ns a ts) (read.listed_part end bytes ms a ts)
+    unfolding read.listed_part
+    steady_listed_part a ts =
+        steady_plus 1 _ _ (steady_last (drop 1 ts) (read.joined end bytes ns false (drop 1 ts)) (read.joined end bytes ms false (drop 1 ts)) (λ b. tree.comma a b (place end ts)) (steady_joined false (drop 1 ts)))
+
+    pub steady_from_list : (ts : Tokens) → Steady (read.from_list end bytes ns ts) (read.from_list end bytes ms ts)
+    unfolding read.from_list
+    steady_from_list ts =
+        steady_followed ts (read.joined end bytes ns false ts) (read.joined end bytes ms false ts) _ _ (steady_joined false ts)
+        (λ a l. steady_repeat (λ l. is_comma (kind l)) (read.listed_part end bytes ns) (read.listed_part end bytes ms) steady_listed_part a 0 l)
 
     -- ---- queries
 
@@ -229,8 +239,8 @@ module _ (end : ℕ) (bytes : List ℕ) where
     steady_body ts =
         steady_followed ts (read.quantifier ts) (read.quantifier ts) _ _ (inr refl) (λ d l.
         steady_followed l (list (read.item end bytes) l) (list (read.item end bytes) l) _ _ (inr refl) (λ is r.
-        steady_followed r (expect end is_from syntax r) (expect end is_from syntax r) _ _ (inr refl) (λ _ q.
-        steady_followed q (read.joined end bytes ns q) (read.joined end bytes ms q) _ _ (steady_joined q) (λ p s.
+        steady_followed r (expect (λ l. is_from (kind l)) (refusal end syntax) r) (expect (λ l. is_from (kind l)) (refusal end syntax) r) _ _ (inr refl) (λ _ q.
+        steady_followed q (read.from_list end bytes ns q) (read.from_list end bytes ms q) _ _ (steady_from_list q) (λ p s.
         steady_last s (read.filter end bytes ns s) (read.filter end bytes ms s) (λ f. select d is p f) (steady_filter s)))))
 
   -- what stands under so many levels answers the same under more
@@ -251,12 +261,12 @@ module _ (end : ℕ) (bytes : List ℕ) where
         room = λ e. refl;
         negs = λ ts. steady_plus 1 _ _ (steady_last (drop 1 ts) (read.neg end bytes (read.nest end bytes l) (drop 1 ts)) (read.neg end bytes (read.nest end bytes m) (drop 1 ts)) (λ c. negated (place end ts) c)
             (steady_neg (read.nest end bytes l) (read.nest end bytes m) below (drop 1 ts)));
-        conds = λ ts. steady_within end (read.cond end bytes (read.nest end bytes l)) (read.cond end bytes (read.nest end bytes m))
-            (steady_cond (read.nest end bytes l) (read.nest end bytes m) below) (λ _. syntax) ts;
-        queries = λ ts. steady_within end (λ ts. plus 1 (read.body end bytes (read.nest end bytes l) (drop 1 ts))) (λ ts. plus 1 (read.body end bytes (read.nest end bytes m) (drop 1 ts)))
-            (λ ts. steady_plus 1 _ _ (steady_body (read.nest end bytes l) (read.nest end bytes m) below (drop 1 ts))) no_query_end ts;
-        froms = λ ts. steady_within end (read.joined end bytes (read.nest end bytes l)) (read.joined end bytes (read.nest end bytes m))
-            (steady_joined (read.nest end bytes l) (read.nest end bytes m) below) (λ _. no_join) ts;
+        conds = λ ts. steady_within (read.cond end bytes (read.nest end bytes l)) (read.cond end bytes (read.nest end bytes m))
+            (steady_cond (read.nest end bytes l) (read.nest end bytes m) below) (λ _. refusal end syntax) ts;
+        queries = λ ts. steady_within (λ ts. plus 1 (read.body end bytes (read.nest end bytes l) (drop 1 ts))) (λ ts. plus 1 (read.body end bytes (read.nest end bytes m) (drop 1 ts)))
+            (λ ts. steady_plus 1 _ _ (steady_body (read.nest end bytes l) (read.nest end bytes m) below (drop 1 ts))) (λ q. refusal end (no_query_end q)) ts;
+        froms = λ ts. steady_within (read.joined end bytes (read.nest end bytes l) true) (read.joined end bytes (read.nest end bytes m) true)
+            (steady_joined (read.nest end bytes l) (read.nest end bytes m) below true) (λ _. refusal end (no_join true)) ts;
       }
 
   -- with more levels a statement is answered the same, unless it is refused for want of a level

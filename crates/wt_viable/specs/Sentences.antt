@@ -1,8 +1,10 @@
 -- Sentences of any depth, and the tokens with which one begins: the viable prefixes.
 use Rattle.std.specs.Prelude.{◌≡◌, ℕ, List, ◌++◌}
 use Rattle.wt_ast.specs.Tree.{QueryTree}
-use Rattle.wt_grammar.specs.Lexemes.{Tokens, place, is_select}
-use Rattle.wt_sentence.specs.Grammar.{Seq, Is, Body, deeper}
+use Rattle.wt_reading.specs.Lexemes.{Tokens, place}
+use Rattle.wt_grammar.specs.Kinds.{is_select}
+use Rattle.wt_reading.specs.Sentences.{Seq, Is}
+use Rattle.wt_sentence.specs.Grammar.{Body, deeper}
 
 module _ (end : ℕ) (bytes : List ℕ) where
   -- a statement with so many levels of nesting

@@ -2,7 +2,7 @@
 #![tactic(auto)]
 
 ghost use Rattle.std.specs.Prelude.{◌≡◌, ℕ, List, Err};
-ghost use Rattle.wt_grammar.specs.Lexemes.{Tokens};
+ghost use Rattle.wt_reading.specs.Lexemes.{Tokens};
 ghost use Rattle.wt_grammar.specs.Reading.{Refusal, statement};
 ghost use Rattle.wt_viable.specs.Sentences.{BeginsSome, Parts};
 

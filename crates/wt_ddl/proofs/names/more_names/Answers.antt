@@ -1,26 +1,21 @@
-use Rattle.std.proofs.Common.{◌∙◌, sym, ap, arith, length, length-drop}
-use Rattle.wt_ddl.specs.Fronts.{at_kind, is_comma}
+use Rattle.std.proofs.Common.{◌∙◌, ◌+◌, refl, sym, ap, arith, length, length-drop}
+use Rattle.wt_reading.specs.Lexemes.{is_comma}
 use Rattle.wt_ddl.specs.Reading as spec
-use Rattle.wt_ddl.proofs.Repeats.{turn_fails, turn_goes, turn_stops, kind_some}
+use Rattle.wt_ddl.proofs.Repeats.{list_fails, list_goes, list_stops}
 use Rattle.wt_ddl.proofs.names.more_names.Goals as goal
 
-pub returns-in_err-at-clause-exact : goal.returns-in_err-at-clause-exact
-returns-in_err-at-clause-exact c =
-    turn_fails (at_kind is_comma) (spec.next_name c.args.text.now) (kind_some is_comma) c.parts.all c.next_name.new.all c.parts.at c.args.rest.now c.after-in-parts.result c.after.result c.in_err-at.field-0.0
-    c.from_residual.result _ c.parts.invariant.exact c.after.ensures.value c.after-in-parts.ensures.value (sym c.at_comma.ensures ∙ c.parts-test.true) c.from_residual.ensures.1 c.in_err-at.ensures.exact
-
-pub overflow_add-at : goal.overflow_add-at
-overflow_add-at c =
-    omega (arith, c.in_ok-at.ensures.within.1, c.after.ensures.small, ap length c.after-in-parts.ensures.value, length-drop c.parts.at c.args.rest.now)
+pub returns-in_err-next-clause-exact : goal.returns-in_err-next-clause-exact
+returns-in_err-next-clause-exact c =
+    list_fails is_comma (spec.name c.args.text.now) c.parts.all c.args.all.now c.parts.all c.parts.at c.args.rest.now c.after-in-parts.result c.after.result c.in_err-next.field-0.0 c.from_residual.result refl
+    c.parts.invariant.exact c.after.ensures.value c.after-in-parts.ensures.value (sym c.at_comma.ensures ∙ c.parts-test.true) c.from_residual.ensures.1 c.in_err-next.ensures.exact
 
 pub parts-preserved : goal.parts-preserved
-parts-preserved c =
-    record {
-      exact = turn_goes (at_kind is_comma) (spec.next_name c.args.text.now) (kind_some is_comma) c.parts.all c.next_name.new.all c.parts.at c.in_ok-at.field-0 c.args.rest.now c.after-in-parts.result c.after.result
-          _ c.parts.invariant.exact c.after.ensures.value c.after-in-parts.ensures.value (sym c.at_comma.ensures ∙ c.parts-test.true) c.in_ok-at.ensures.exact c.in_ok-at.ensures.within.0 c.in_ok-at.ensures.within.1;
-      within = omega (arith, c.in_ok-at.ensures.within.1, ap length c.after-in-parts.ensures.value, length-drop c.parts.at c.args.rest.now);
-    }
+parts-preserved c = record {
+  exact = list_goes is_comma (spec.name c.args.text.now) c.parts.all c.push.new.self c.args.all.now c.parts.at c.in_ok-next.n c.in_ok-next.next c.args.rest.now c.after-in-parts.result c.after.result refl
+      c.parts.invariant.exact c.after.ensures.value c.after-in-parts.ensures.value (sym c.at_comma.ensures ∙ c.parts-test.true) c.in_ok-next.ensures.exact c.in_ok-push.ensures.ok;
+  within = omega (arith, c.in_ok-next.ensures.one, ap length c.after-in-parts.ensures.value, length-drop (c.parts.at + 1) c.args.rest.now);
+}
 
 pub returns-clause-exact : goal.returns-clause-exact
 returns-clause-exact c =
-    turn_stops (at_kind is_comma) (spec.next_name c.args.text.now) (kind_some is_comma) c.parts.all c.parts.at c.args.rest.now c.after.result _ c.parts.invariant.exact c.after.ensures.value (sym c.at_comma.ensures ∙ c.parts-test.false)
+    list_stops is_comma (spec.name c.args.text.now) c.parts.all c.args.all.now c.parts.at c.args.rest.now c.after.result c.parts.invariant.exact c.after.ensures.value (sym c.at_comma.ensures ∙ c.parts-test.false)

@@ -1,26 +1,29 @@
 use Rattle.std.proofs.Common.{◌∙◌, sym, ap, arith, length, length-drop}
-use Rattle.wt_ddl.specs.Fronts.{at_kind, is_some_word}
+use Rattle.wt_ddl.proofs.Repeats.{turn_goes, turn_stops, turn_gives_none, word_some}
+use Rattle.wt_ddl.specs.Fronts.{at_some_word}
+use Rattle.wt_reading.specs.Readings.{one_more}
 use Rattle.wt_ddl.specs.Reading as spec
-use Rattle.wt_ddl.proofs.Repeats.{turn_fails, turn_goes, turn_stops, kind_some}
 use Rattle.wt_ddl.proofs.rules.column_rules.Goals as goal
 
 pub returns-in_err-at-clause-exact : goal.returns-in_err-at-clause-exact
 returns-in_err-at-clause-exact c =
-    turn_fails (at_kind is_some_word) (spec.rule c.args.text.now c.args.own) (kind_some is_some_word) c.parts.table c.rule.new.table c.parts.at c.args.rest.now c.after-in-parts.result c.after.result c.in_err-at.field-0.0
+    turn_gives_none at_some_word (one_more (spec.rule c.args.text.now c.args.before.now)) (word_some) c.parts.rules c.parts.at c.args.rest.now c.after-in-parts.result c.after.result c.in_err-at.field-0.0
     c.from_residual.result _ c.parts.invariant.exact c.after.ensures.value c.after-in-parts.ensures.value (sym c.at_some_word.ensures ∙ c.parts-test.true) c.from_residual.ensures.1 c.in_err-at.ensures.exact
 
 pub overflow_add-at : goal.overflow_add-at
 overflow_add-at c =
-    omega (arith, c.in_ok-at.ensures.within.1, c.after.ensures.small, ap length c.after-in-parts.ensures.value, length-drop c.parts.at c.args.rest.now)
+    let within = c.in_ok-at.ensures.within in
+    omega (arith, within.1, c.after.ensures.small, ap length c.after-in-parts.ensures.value, length-drop c.parts.at c.args.rest.now)
 
 pub parts-preserved : goal.parts-preserved
 parts-preserved c =
+    let within = c.in_ok-at.ensures.within in
     record {
-      exact = turn_goes (at_kind is_some_word) (spec.rule c.args.text.now c.args.own) (kind_some is_some_word) c.parts.table c.rule.new.table c.parts.at c.in_ok-at.field-0 c.args.rest.now c.after-in-parts.result c.after.result
-          _ c.parts.invariant.exact c.after.ensures.value c.after-in-parts.ensures.value (sym c.at_some_word.ensures ∙ c.parts-test.true) c.in_ok-at.ensures.exact c.in_ok-at.ensures.within.0 c.in_ok-at.ensures.within.1;
-      within = omega (arith, c.in_ok-at.ensures.within.1, ap length c.after-in-parts.ensures.value, length-drop c.parts.at c.args.rest.now);
+      exact = turn_goes at_some_word (one_more (spec.rule c.args.text.now c.args.before.now)) (word_some) c.parts.rules c.next_rule.new.rules c.parts.at c.in_ok-at.field-0 c.args.rest.now c.after-in-parts.result c.after.result
+          _ c.parts.invariant.exact c.after.ensures.value c.after-in-parts.ensures.value (sym c.at_some_word.ensures ∙ c.parts-test.true) c.in_ok-at.ensures.exact within.0;
+      within = omega (arith, within.1, ap length c.after-in-parts.ensures.value, length-drop c.parts.at c.args.rest.now);
     }
 
 pub returns-clause-exact : goal.returns-clause-exact
 returns-clause-exact c =
-    turn_stops (at_kind is_some_word) (spec.rule c.args.text.now c.args.own) (kind_some is_some_word) c.parts.table c.parts.at c.args.rest.now c.after.result _ c.parts.invariant.exact c.after.ensures.value (sym c.at_some_word.ensures ∙ c.parts-test.false)
+    turn_stops at_some_word (one_more (spec.rule c.args.text.now c.args.before.now)) (word_some) c.parts.rules c.parts.at c.args.rest.now c.after.result _ c.parts.invariant.exact c.after.ensures.value (sym c.at_some_word.ensures ∙ c.parts-test.false)

@@ -1,6 +1,6 @@
-use Rattle.std.proofs.Common.{◌≡◌, ◌∙◌, sym, ap, arith, length, length-drop, true}
+use Rattle.std.proofs.Common.{◌∙◌, sym, ap, arith, length, length-drop}
+use Rattle.wt_ddl.proofs.Repeats.{turn_goes, turn_stops, turn_fails, option_some}
 use Rattle.wt_ddl.specs.Reading as spec
-use Rattle.wt_ddl.proofs.Repeats.{turn_fails, turn_goes, turn_stops, option_some}
 use Rattle.wt_ddl.proofs.targets.options.Goals as goal
 
 pub returns-in_err-at-clause-exact : goal.returns-in_err-at-clause-exact
@@ -10,17 +10,15 @@ returns-in_err-at-clause-exact c =
 
 pub overflow_add-at : goal.overflow_add-at
 overflow_add-at c =
-    let at_one : spec.at_option c.args.text.now c.after-in-parts.result ≡ true = ap (spec.at_option c.args.text.now) (c.after-in-parts.ensures.value ∙ sym c.after.ensures.value) ∙ sym c.at_option.ensures ∙ c.parts-test.true in
-    let within = c.in_ok-at.ensures.within at_one in
+    let within = c.in_ok-at.ensures.within (ap (spec.at_option c.args.text.now) (c.after-in-parts.ensures.value ∙ sym c.after.ensures.value) ∙ sym c.at_option.ensures ∙ c.parts-test.true) in
     omega (arith, within.1, c.after.ensures.small, ap length c.after-in-parts.ensures.value, length-drop c.parts.at c.args.rest.now)
 
 pub parts-preserved : goal.parts-preserved
 parts-preserved c =
-    let at_one : spec.at_option c.args.text.now c.after-in-parts.result ≡ true = ap (spec.at_option c.args.text.now) (c.after-in-parts.ensures.value ∙ sym c.after.ensures.value) ∙ sym c.at_option.ensures ∙ c.parts-test.true in
-    let within = c.in_ok-at.ensures.within at_one in
+    let within = c.in_ok-at.ensures.within (ap (spec.at_option c.args.text.now) (c.after-in-parts.ensures.value ∙ sym c.after.ensures.value) ∙ sym c.at_option.ensures ∙ c.parts-test.true) in
     record {
       exact = turn_goes (spec.at_option c.args.text.now) (spec.option c.args.text.now) (option_some c.args.text.now) tt tt c.parts.at c.in_ok-at.field-0 c.args.rest.now c.after-in-parts.result c.after.result
-          _ c.parts.invariant.exact c.after.ensures.value c.after-in-parts.ensures.value (sym c.at_option.ensures ∙ c.parts-test.true) c.in_ok-at.ensures.exact within.0 within.1;
+          _ c.parts.invariant.exact c.after.ensures.value c.after-in-parts.ensures.value (sym c.at_option.ensures ∙ c.parts-test.true) c.in_ok-at.ensures.exact within.0;
       within = omega (arith, within.1, ap length c.after-in-parts.ensures.value, length-drop c.parts.at c.args.rest.now);
     }
 

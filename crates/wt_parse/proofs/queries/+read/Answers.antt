@@ -1,11 +1,12 @@
-use Rattle.std.proofs.Common.{◌∙◌, ◌+◌, sym, ap, arith, drop, length, length-drop, add-zero, is_ok, refl, Ok}
+use Rattle.std.proofs.Common.{◌∙◌, ◌+◌, sym, ap, arith, length, length-drop, is_ok, refl}
 use Rattle.std.specs.Prelude.{map}
-use Rattle.std.proofs.lemmas.List.{drop-drop}
 use Rattle.std.proofs.ResultArms.{chosen}
 use Rattle.wt_ast.specs.Tree.{condition_tree, from_tree}
-use Rattle.wt_grammar.specs.Lexemes.{begins_join, is_and, is_or, kind}
+use Rattle.wt_reading.specs.Lexemes.{kind, at, is_comma}
+use Rattle.wt_grammar.specs.Kinds.{begins_join, is_and, is_or}
 use Rattle.wt_grammar.specs.Reading as spec
-use Rattle.wt_parse.proofs.More.{loop_goes, loop_fails, loop_stops, exit, gives_exit, put_err, map_push, joins_go, joins_fail, joins_stop, plus_plus}
+use Rattle.wt_reading.proofs.Loops.{loop_goes, loop_fails, loop_stops, put_err, map_push, turn_goes, turn_fails, turn_stops}
+use Rattle.wt_front.proofs.More.{exit, gives_exit, there}
 use Rattle.wt_parse.proofs.queries.+read.Goals as goal
 
 pub more_conj-returns-in_err-part-clause-exact : goal.more_conj-returns-in_err-part-clause-exact
@@ -65,9 +66,9 @@ more_neg-returns-clause-exact t c =
 pub joins-returns-in_err-wider-clause-exact : goal.joins-returns-in_err-wider-clause-exact
 joins-returns-in_err-wider-clause-exact t c =
     let words = ap (λ l. begins_join (kind l)) (sym c.after.ensures) ∙ sym c.at_join_words.ensures.value ∙ c.parts-test.true in
-    gives_exit from_tree from_tree c.in_err-wider.field-0.0 c.from_residual.result (spec.join c.args.end c.args.bytes.now (spec.nest c.args.end c.args.bytes.now c.args.levels) (from_tree c.parts.left) c.after-in-parts.result.now) _ c.from_residual.ensures.1 c.in_err-wider.ensures.exact
-    (λ f h. sym c.parts.invariant.exact ∙ ap (spec.plus c.parts.at) (joins_fail c.args.end c.args.bytes.now (spec.nest c.args.end c.args.bytes.now c.args.levels) (from_tree c.parts.left) (drop c.parts.at c.args.ts.now) f words
-    (ap (spec.join c.args.end c.args.bytes.now (spec.nest c.args.end c.args.bytes.now c.args.levels) (from_tree c.parts.left)) (sym c.after-in-parts.ensures) ∙ h)))
+    gives_exit from_tree from_tree c.in_err-wider.field-0.0 c.from_residual.result (spec.join c.args.end c.args.bytes.now (spec.nest c.args.end c.args.bytes.now c.args.levels) c.args.inside (from_tree c.parts.left) c.after-in-parts.result.now) _ c.from_residual.ensures.1 c.in_err-wider.ensures.exact
+    (λ f h. turn_fails (at begins_join) (spec.join c.args.end c.args.bytes.now (spec.nest c.args.end c.args.bytes.now c.args.levels) c.args.inside) (there begins_join refl) (from_tree c.parts.left) c.parts.at c.args.ts.now f _ c.parts.invariant.exact words
+    (ap (spec.join c.args.end c.args.bytes.now (spec.nest c.args.end c.args.bytes.now c.args.levels) c.args.inside (from_tree c.parts.left)) (sym c.after-in-parts.ensures) ∙ h))
 
 pub joins-parts-preserved : goal.joins-parts-preserved
 joins-parts-preserved t c =
@@ -76,15 +77,36 @@ joins-parts-preserved t c =
     let here = ap length c.after.ensures ∙ length-drop c.parts.at c.args.ts.now in
     let rest = ap length c.after-in-parts.ensures ∙ length-drop c.parts.at c.args.ts.now in
     record {
-      exact = ap (λ l. spec.plus (c.parts.at + c.in_ok-wider.m) (spec.joins c.args.end c.args.bytes.now (spec.nest c.args.end c.args.bytes.now c.args.levels) (from_tree c.in_ok-wider.wider) 0 l)) (sym (drop-drop c.in_ok-wider.m c.parts.at c.args.ts.now))
-          ∙ sym (plus_plus c.parts.at c.in_ok-wider.m _)
-          ∙ ap (spec.plus c.parts.at) (sym (joins_go c.args.end c.args.bytes.now (spec.nest c.args.end c.args.bytes.now c.args.levels) (from_tree c.parts.left) (from_tree c.in_ok-wider.wider) c.in_ok-wider.m (drop c.parts.at c.args.ts.now) words
-          c.in_ok-wider.ensures.within.0 (ap (spec.join c.args.end c.args.bytes.now (spec.nest c.args.end c.args.bytes.now c.args.levels) (from_tree c.parts.left)) (sym c.after-in-parts.ensures) ∙ c.in_ok-wider.ensures.exact)))
-          ∙ c.parts.invariant.exact;
+      exact = turn_goes (at begins_join) (spec.join c.args.end c.args.bytes.now (spec.nest c.args.end c.args.bytes.now c.args.levels) c.args.inside) (there begins_join refl) (from_tree c.parts.left) (from_tree c.in_ok-wider.wider) c.parts.at c.in_ok-wider.m c.args.ts.now _ c.parts.invariant.exact words
+          c.in_ok-wider.ensures.within.0 (ap (spec.join c.args.end c.args.bytes.now (spec.nest c.args.end c.args.bytes.now c.args.levels) c.args.inside (from_tree c.parts.left)) (sym c.after-in-parts.ensures) ∙ c.in_ok-wider.ensures.exact);
       within = omega (arith, c.in_ok-wider.ensures.within);
     }
 
 pub joins-returns-clause-exact : goal.joins-returns-clause-exact
 joins-returns-clause-exact t c =
     let none = ap (λ l. begins_join (kind l)) (sym c.after.ensures) ∙ sym c.at_join_words.ensures.value ∙ c.parts-test.false in
-    sym c.parts.invariant.exact ∙ ap (spec.plus c.parts.at) (joins_stop c.args.end c.args.bytes.now (spec.nest c.args.end c.args.bytes.now c.args.levels) (from_tree c.parts.left) (drop c.parts.at c.args.ts.now) none) ∙ ap (λ n. Ok (from_tree c.parts.left, n)) (add-zero c.parts.at)
+    turn_stops (at begins_join) (spec.join c.args.end c.args.bytes.now (spec.nest c.args.end c.args.bytes.now c.args.levels) c.args.inside) (there begins_join refl) (from_tree c.parts.left) c.parts.at c.args.ts.now _ c.parts.invariant.exact none
+
+pub more_from-returns-in_err-wider-clause-exact : goal.more_from-returns-in_err-wider-clause-exact
+more_from-returns-in_err-wider-clause-exact t c =
+    let words = ap (λ l. is_comma (kind l)) (sym c.after.ensures) ∙ sym c.at_comma.ensures.value ∙ c.parts-test.true in
+    gives_exit from_tree from_tree c.in_err-wider.field-0.0 c.from_residual.result (spec.listed_part c.args.end c.args.bytes.now (spec.nest c.args.end c.args.bytes.now c.args.levels) (from_tree c.parts.left) c.after-in-parts.result.now) _ c.from_residual.ensures.1 c.in_err-wider.ensures.exact
+    (λ f h. turn_fails (at is_comma) (spec.listed_part c.args.end c.args.bytes.now (spec.nest c.args.end c.args.bytes.now c.args.levels)) (there is_comma refl) (from_tree c.parts.left) c.parts.at c.args.ts.now f _ c.parts.invariant.exact words
+    (ap (spec.listed_part c.args.end c.args.bytes.now (spec.nest c.args.end c.args.bytes.now c.args.levels) (from_tree c.parts.left)) (sym c.after-in-parts.ensures) ∙ h))
+
+pub more_from-parts-preserved : goal.more_from-parts-preserved
+more_from-parts-preserved t c =
+    let words = ap (λ l. is_comma (kind l)) (sym c.after.ensures) ∙ sym c.at_comma.ensures.value ∙ c.parts-test.true in
+    let some = c.at_comma.ensures.some c.parts-test.true in
+    let here = ap length c.after.ensures ∙ length-drop c.parts.at c.args.ts.now in
+    let rest = ap length c.after-in-parts.ensures ∙ length-drop c.parts.at c.args.ts.now in
+    record {
+      exact = turn_goes (at is_comma) (spec.listed_part c.args.end c.args.bytes.now (spec.nest c.args.end c.args.bytes.now c.args.levels)) (there is_comma refl) (from_tree c.parts.left) (from_tree c.in_ok-wider.wider) c.parts.at c.in_ok-wider.m c.args.ts.now _ c.parts.invariant.exact words
+          c.in_ok-wider.ensures.within.0 (ap (spec.listed_part c.args.end c.args.bytes.now (spec.nest c.args.end c.args.bytes.now c.args.levels) (from_tree c.parts.left)) (sym c.after-in-parts.ensures) ∙ c.in_ok-wider.ensures.exact);
+      within = omega (arith, c.in_ok-wider.ensures.within);
+    }
+
+pub more_from-returns-clause-exact : goal.more_from-returns-clause-exact
+more_from-returns-clause-exact t c =
+    let none = ap (λ l. is_comma (kind l)) (sym c.after.ensures) ∙ sym c.at_comma.ensures.value ∙ c.parts-test.false in
+    turn_stops (at is_comma) (spec.listed_part c.args.end c.args.bytes.now (spec.nest c.args.end c.args.bytes.now c.args.levels)) (there is_comma refl) (from_tree c.parts.left) c.parts.at c.args.ts.now _ c.parts.invariant.exact none

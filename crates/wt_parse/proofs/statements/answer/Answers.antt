@@ -5,7 +5,8 @@ use Rattle.wt_lex.specs.declared.token.Token.{Token}
 use Rattle.wt_grammar.specs.Reading.{refused, statement}
 use Rattle.wt_grammar.specs.Statements as spec
 use Rattle.wt_grammar.specs.declared.fault.QueryFault.TheVariants.{TooLong}
-use Rattle.wt_parse.specs.Held.{shown, Answers, NoOdd}
+use Rattle.wt_parse.specs.Held.{shown, NoOdd}
+use Rattle.wt_parse.specs.Outcomes.{Answers}
 use Rattle.wt_parse.proofs.Answering.{begins, too_long, short_enough, tokens_back, odd_exit, read_exit, read}
 use Rattle.wt_parse.proofs.statements.answer.Goals as goal
 

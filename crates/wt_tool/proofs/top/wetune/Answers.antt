@@ -1,5 +1,6 @@
 use Rattle.wt_tool.proofs.Statuses.{bytes_of, usage_only, usage_where, read_of, write_of, prefix_of, status_known}
 use Rattle.wt_tool.proofs.QueryLaws.{keeps_rows, keeps_names}
+use Rattle.wt_tool.proofs.RuleBags.{rules_have_one_bag}
 use Rattle.wt_tool.proofs.top.wetune.Goals as goal
 
 pub returns-clause-bytes : goal.returns-clause-bytes
@@ -28,3 +29,6 @@ returns-clause-rows g c = keeps_rows
 
 pub returns-clause-names : goal.returns-clause-names
 returns-clause-names g c = keeps_names
+
+pub returns-clause-one_bag : goal.returns-clause-one_bag
+returns-clause-one_bag g c = rules_have_one_bag

@@ -1,0 +1,119 @@
+//! Expressions that are the same.
+ghost use Rattle.std.specs.Prelude.{◌≡◌, ◌+◌, ◌∷◌, [], nat_eq, get_or, length};
+ghost use Rattle.wt_form.specs.Congruent.{place, expr_same, pieces_same};
+ghost use Rattle.wt_form.specs.Known.{cols_same, heads_same, part_same};
+ghost use Rattle.wt_congruent.specs.Sames.{known_of};
+
+use crate::sames::Sames;
+use wt_form::Expr;
+use wt_symbol::{Part, PartCols};
+
+/// Whether the places pair variable v with w.
+pub fn is_place(ks: &[usize], v: usize, w: usize) -> bool
+    ensures { result ≡ nat_eq (place ks.now v) w }
+{
+    match ks {
+        [] => v == w,
+        [k, rest @ ..] => {
+            if v == 0 {
+                *k == w
+            } else if w < *k {
+                is_place(rest, v - 1, w)
+            } else if w > *k {
+                is_place(rest, v - 1, w - 1)
+            } else {
+                false
+            }
+        }
+    }
+}
+
+pub fn same_cols(sames: &Sames, c: PartCols, d: PartCols) -> bool
+    ensures { result ≡ cols_same (known_of sames.now) c d }
+{
+    match c {
+        PartCols::Whole => match d {
+            PartCols::Whole => true,
+            PartCols::List(_) => false,
+        },
+        PartCols::List(a) => match d {
+            PartCols::Whole => false,
+            PartCols::List(b) => sames.same_list(a, b),
+        },
+    }
+}
+
+/// Whether the expressions are the same, the variables of the first being at the places.
+pub fn same_expr(sames: &Sames, ks: &[usize], x: Expr, y: Expr) -> bool
+    ensures { result ≡ expr_same (known_of sames.now) ks.now x y }
+{
+    match x {
+        Expr::Of(v, i, c) => match y {
+            Expr::Of(w, j, d) => {
+                is_place(ks, v as usize, w as usize) && i == j && same_cols(sames, c, d)
+            }
+            Expr::Null(_, _) => false,
+        },
+        Expr::Null(r, c) => match y {
+            Expr::Of(_, _, _) => false,
+            Expr::Null(s, d) => match c {
+                PartCols::Whole => match d {
+                    PartCols::Whole => sames.same_leaf(r, s),
+                    PartCols::List(_) => false,
+                },
+                PartCols::List(a) => match d {
+                    PartCols::Whole => false,
+                    PartCols::List(b) => sames.same_list(a, b),
+                },
+            },
+        },
+    }
+}
+
+/// Whether there are equally many, the same in order.
+pub fn same_pieces(sames: &Sames, ks: &[usize], xs: &[Expr], ys: &[Expr]) -> bool
+    ensures { result ≡ pieces_same (known_of sames.now) ks.now xs.now ys.now }
+{
+    match xs {
+        [] => match ys {
+            [] => true,
+            [_, ..] => false,
+        },
+        [x, more @ ..] => match ys {
+            [] => false,
+            [y, others @ ..] => {
+                same_expr(sames, ks, *x, *y) && same_pieces(sames, ks, more, others)
+            }
+        },
+    }
+}
+
+pub fn same_part(sames: &Sames, p: Part, q: Part) -> bool
+    ensures { result ≡ part_same (known_of sames.now) p q }
+{
+    match p.cols {
+        PartCols::Whole => match q.cols {
+            PartCols::Whole => sames.same_leaf(p.leaf, q.leaf),
+            PartCols::List(_) => false,
+        },
+        PartCols::List(a) => match q.cols {
+            PartCols::Whole => false,
+            PartCols::List(b) => sames.same_list(a, b),
+        },
+    }
+}
+
+pub fn same_head(sames: &Sames, ps: &[Part], qs: &[Part]) -> bool
+    ensures { result ≡ heads_same (known_of sames.now) ps.now qs.now }
+{
+    match ps {
+        [] => match qs {
+            [] => true,
+            [_, ..] => false,
+        },
+        [p, more @ ..] => match qs {
+            [] => false,
+            [q, others @ ..] => same_part(sames, *p, *q) && same_head(sames, more, others),
+        },
+    }
+}

@@ -1,0 +1,236 @@
+//! The search for pairings.
+ghost use Rattle.std.specs.Prelude.{◌≡◌, ◌↔◌, ◌+◌, ◌<◌, ◌++◌, ◌∷◌, [], ℕ, List, map, length, IsTrue, IfOk, OnOk};
+ghost use Rattle.wt_bag.specs.Choices.{Has, At, drop_at};
+ghost use Rattle.wt_form.specs.Congruent.{TermsSame, RangesSame, RangeSame, CondsSame, CondSame};
+ghost use Rattle.wt_form.specs.Views.{terms_seen, ranges_seen, range_seen, conds_seen, cond_seen, terms_from, term_seen};
+ghost use Rattle.wt_congruent.specs.Sames.{known_of};
+ghost use Rattle.wt_congruent.specs.Refs.{term_behind, range_behind, cond_behind, TermIs};
+
+use crate::exprs::{same_expr, same_head, same_pieces};
+use crate::places::Places;
+use crate::refs::{cond_refs, range_refs, term_refs, without};
+use crate::sames::Sames;
+use std::alloc::{AllocError, Global};
+use wt_form::{Cond, Conds, FormRange, Ranges, Term, Terms};
+
+/// The place, and then each of the lists.
+fn push_first(
+    alloc: Global,
+    j: usize,
+    tails: &[Places],
+    out: &mut Vec<Places>,
+) -> Result<(), AllocError>
+    ensures { OnOk result (out.new.items ≡ out.old.items ++ map (λ ks. j ∷ ks) tails.now) }
+{
+    for tail in tails {
+        let mut ks = Places::new(alloc);
+        ks.push(j)?;
+        ks.extend(tail.as_slice())?;
+        out.push(ks)?;
+    }
+    Ok(())
+}
+
+/// The places of the ranges that are the same as this one.
+#[cycle(same)]
+fn partners(
+    alloc: Global,
+    sames: &Sames,
+    range: &FormRange,
+    left: &[&FormRange],
+) -> Result<Vec<usize>, AllocError>
+    ensures { IfOk result (λ out. (j : ℕ) → (Has j out.items ↔ At (RangeSame (known_of sames.now) (range_seen range.now)) j (map range_behind left.now))) }
+{
+    let mut out = Vec::new(alloc);
+    for j in 0..left.len() {
+        if same_range(alloc, sames, range, left[j])? {
+            out.push(j)?;
+        }
+    }
+    Ok(out)
+}
+
+/// Every way to pair the variables one to one with those that are left.
+#[cycle(same)]
+pub fn pairings(
+    alloc: Global,
+    sames: &Sames,
+    ranges: &Ranges,
+    left: &[&FormRange],
+) -> Result<Vec<Places>, AllocError>
+    ensures { IfOk result (λ out. (ks : List ℕ) → (Has ks out.items ↔ RangesSame (known_of sames.now) ks (ranges_seen ranges.now) (map range_behind left.now))) }
+{
+    let mut out = Vec::new(alloc);
+    match ranges {
+        Ranges::Empty => {
+            if left.is_empty() {
+                out.push(Places::new(alloc))?;
+            }
+            Ok(out)
+        }
+        Ranges::More(range, rest) => {
+            let all = partners(alloc, sames, range, left)?;
+            for i in 0..all.len() {
+                let j = all[i];
+                let fewer = without(alloc, left, j)?;
+                let tails = pairings(alloc, sames, rest, fewer.as_slice())?;
+                push_first(alloc, j, tails.as_slice(), &mut out)?;
+            }
+            Ok(out)
+        }
+    }
+}
+
+/// Whether a variable goes over the same rows as another one.
+#[cycle(same)]
+pub fn same_range(
+    alloc: Global,
+    sames: &Sames,
+    range: &FormRange,
+    other: &FormRange,
+) -> Result<bool, AllocError>
+    ensures { IfOk result (λ yes. IsTrue yes ↔ RangeSame (known_of sames.now) (range_seen range.now) (range_seen other.now)) }
+{
+    match range {
+        FormRange::Rel(r) => match other {
+            FormRange::Rel(s) => Ok(sames.same_leaf(*r, *s)),
+            FormRange::Distinct(_) => Ok(false),
+        },
+        FormRange::Distinct(f) => match other {
+            FormRange::Rel(_) => Ok(false),
+            FormRange::Distinct(g) => {
+                if !same_head(sames, f.head.as_slice(), g.head.as_slice()) {
+                    return Ok(false);
+                }
+                let left = term_refs(alloc, &g.terms)?;
+                let same = same_terms(alloc, sames, &f.terms, left.as_slice())?;
+                Ok(same)
+            }
+        },
+    }
+}
+
+/// Whether the conditions can be paired one to one with those that are left.
+#[cycle(same)]
+pub fn same_conds(
+    alloc: Global,
+    sames: &Sames,
+    ks: &[usize],
+    conds: &Conds,
+    left: &[&Cond],
+) -> Result<bool, AllocError>
+    ensures { IfOk result (λ yes. IsTrue yes ↔ CondsSame (known_of sames.now) ks.now (conds_seen conds.now) (map cond_behind left.now)) }
+{
+    match conds {
+        Conds::Empty => Ok(left.is_empty()),
+        Conds::More(c, rest) => {
+            for j in 0..left.len() {
+                if same_cond(alloc, sames, ks, c, left[j])? {
+                    let fewer = without(alloc, left, j)?;
+                    if same_conds(alloc, sames, ks, rest, fewer.as_slice())? {
+                        return Ok(true);
+                    }
+                }
+            }
+            Ok(false)
+        }
+    }
+}
+
+/// Whether a condition is the same as another one when the variables take these places.
+#[cycle(same)]
+pub fn same_cond(
+    alloc: Global,
+    sames: &Sames,
+    ks: &[usize],
+    c: &Cond,
+    d: &Cond,
+) -> Result<bool, AllocError>
+    ensures { IfOk result (λ yes. IsTrue yes ↔ CondSame (known_of sames.now) ks.now (cond_seen c.now) (cond_seen d.now)) }
+{
+    match c {
+        Cond::Pred(p, x) => match d {
+            Cond::Pred(q, y) => Ok(sames.same_pred(*p, *q) && same_expr(sames, ks, *x, *y)),
+            _ => Ok(false),
+        },
+        Cond::Join(x, y) => match d {
+            Cond::Join(v, w) => Ok(
+                same_expr(sames, ks, *x, *v) && same_expr(sames, ks, *y, *w)
+                    || same_expr(sames, ks, *x, *w) && same_expr(sames, ks, *y, *v),
+            ),
+            _ => Ok(false),
+        },
+        Cond::In(x, f) => match d {
+            Cond::In(y, g) => {
+                if !same_expr(sames, ks, *x, *y) {
+                    return Ok(false);
+                }
+                let left = term_refs(alloc, &g.terms)?;
+                let same = same_terms(alloc, sames, &f.terms, left.as_slice())?;
+                Ok(same)
+            }
+            _ => Ok(false),
+        },
+        Cond::NotIn(x, f) => match d {
+            Cond::NotIn(y, g) => {
+                if !same_expr(sames, ks, *x, *y) {
+                    return Ok(false);
+                }
+                let left = term_refs(alloc, &g.terms)?;
+                let same = same_terms(alloc, sames, &f.terms, left.as_slice())?;
+                Ok(same)
+            }
+            _ => Ok(false),
+        },
+    }
+}
+
+/// Whether some pairing of variables makes the terms the same.
+#[cycle(same)]
+pub fn same_term(
+    alloc: Global,
+    sames: &Sames,
+    term: &Term,
+    other: &Term,
+) -> Result<bool, AllocError>
+    ensures { IfOk result (λ yes. IsTrue yes ↔ TermIs (known_of sames.now) (term_seen term.now) (term_seen other.now)) }
+{
+    let ranges = range_refs(alloc, &other.ranges)?;
+    let ways = pairings(alloc, sames, &term.ranges, ranges.as_slice())?;
+    let conds = cond_refs(alloc, &other.conds)?;
+    for i in 0..ways.len() {
+        let ks = ways[i].as_slice();
+        if same_pieces(sames, ks, term.pieces.as_slice(), other.pieces.as_slice()) {
+            if same_conds(alloc, sames, ks, &term.conds, conds.as_slice())? {
+                return Ok(true);
+            }
+        }
+    }
+    Ok(false)
+}
+
+/// Whether the terms can be paired one to one with those that are left.
+#[cycle(same)]
+pub fn same_terms(
+    alloc: Global,
+    sames: &Sames,
+    terms: &Terms,
+    left: &[&Term],
+) -> Result<bool, AllocError>
+    ensures { IfOk result (λ yes. IsTrue yes ↔ TermsSame (known_of sames.now) (terms_seen terms.now) (terms_from (map term_behind left.now))) }
+{
+    match terms {
+        Terms::Empty => Ok(left.is_empty()),
+        Terms::More(term, rest) => {
+            for k in 0..left.len() {
+                if same_term(alloc, sames, term, left[k])? {
+                    let fewer = without(alloc, left, k)?;
+                    if same_terms(alloc, sames, rest, fewer.as_slice())? {
+                        return Ok(true);
+                    }
+                }
+            }
+            Ok(false)
+        }
+    }
+}

@@ -1,0 +1,12 @@
+use Rattle.std.proofs.Common.{◌≡◌, ◌-◌, ◌++◌, ◌≤◌, length, drop}
+use Rattle.wt_ddl.specs.Settling.{columns_of}
+use Rattle.wt_ddl.proofs.settling.columns_of.Given as goal
+
+abbrev pub invariant-elements : goal.invariant-elements
+invariant-elements l = record {
+  exact : l.columns ++ columns_of (drop l.i l.elements) ≡ columns_of l.elements;
+  within : l.i ≤ length l.elements;
+}
+
+abbrev pub decreases-elements : goal.decreases-elements
+decreases-elements l = length l.elements - l.i

@@ -1,0 +1,4 @@
+pub mod FormRows
+pub mod Holding
+pub mod Keeping
+pub mod Fits

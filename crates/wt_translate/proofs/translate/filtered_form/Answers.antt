@@ -1,0 +1,8 @@
+use Rattle.std.proofs.Common.{ap, ◌∙◌}
+use Rattle.wt_form.specs.Trees.{Pred}
+use Rattle.wt_form.specs.Views.{terms_seen}
+use Rattle.wt_form.specs.FormOf.{each_term, list_expr, cond_term}
+use Rattle.wt_translate.proofs.translate.filtered_form.Goals as goal
+
+pub returns-clause-terms : goal.returns-clause-terms
+returns-clause-terms c = c.in_ok-terms.ensures ∙ ap (λ h. each_term (cond_term (λ ps. Pred c.args.pred (list_expr h ps c.args.columns.anchor c.args.columns.list))) (terms_seen c.args.form.terms)) c.as_slice.ensures

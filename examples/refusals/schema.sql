@@ -1,0 +1,1 @@
+CREATE TABLE o (k INTEGER);

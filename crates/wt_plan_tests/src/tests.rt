@@ -1,7 +1,6 @@
 //! Examples whose answers come from outside.
 
 mod plans;
-mod texts;
 
 use std::alloc::{AllocError, Global};
 use std::test::Fail;
@@ -69,15 +68,8 @@ fn plans_have_their_rows(rt: HostRuntime) -> Result<(), Fail> {
     Ok(())
 }
 
-fn text_of(alloc: Global, plan: &Plan) -> Result<String, AllocError> {
-    let mut out = String::new(alloc);
-    texts::put_plan(alloc, &mut out, plan)?;
-    Ok(out)
-}
-
-fn is_copied(alloc: Global, n: usize) -> Result<bool, AllocError> {
-    let plan = plans::plan(alloc, n)?;
-    Ok(text_of(alloc, &plan.copy(alloc)?)? == text_of(alloc, &plan)?)
+fn is_copied(alloc: Global, n: usize, expected: &str) -> Result<bool, AllocError> {
+    has_rows(alloc, &plans::plan(alloc, n)?.copy(alloc)?, expected)
 }
 
 fn measures(alloc: Global, n: usize) -> Result<(u32, u64, u32), AllocError> {
@@ -91,6 +83,6 @@ fn plans_are_measured(rt: HostRuntime) -> Result<(), Fail> {
     assert!(rt; measures(alloc, 0)? == (1, 10, 4));
     assert!(rt; measures(alloc, 4)? == (1, 5, 3));
     assert!(rt; measures(alloc, 9)? == (6, 15, 7));
-    assert!(rt; is_copied(alloc, 8)? && is_copied(alloc, 4)?);
+    assert!(rt; is_copied(alloc, 4, "- 6")? && is_copied(alloc, 5, "1-5- 3-67")?);
     Ok(())
 }

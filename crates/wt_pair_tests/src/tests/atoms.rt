@@ -33,7 +33,7 @@ fn has_atoms(alloc: Global, text: &str, expected: &str) -> Result<bool, AllocErr
 
 #[test]
 fn atoms_stand_in_order(rt: HostRuntime) -> Result<(), Fail> {
-    for (text, expected) in ATOMS {
+    for (text, expected) in &ATOMS {
         assert!(rt; has_atoms(rt.alloc(), text, expected)?, "{text}");
     }
     Ok(())

@@ -109,7 +109,7 @@ static SIDES: [(&str, &str); 14] = [
 
 #[test]
 fn sides_have_rows(rt: HostRuntime) -> Result<(), Fail> {
-    for (text, expected) in SIDES {
+    for (text, expected) in &SIDES {
         assert!(rt;
             gives(rt.alloc(), &TWO_TABLES, "010100", text, expected)?,
             "{text}"

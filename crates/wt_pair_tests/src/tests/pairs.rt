@@ -1,8 +1,11 @@
 //! Which pairs are lawful, and the heads of sides.
-use crate::tests::{anchors, pair, side};
+ghost use Rattle.std.specs.Prelude.{◌≡◌, IfOk};
+ghost use Rattle.wt_symbol.specs.Sides.{input, proj, inner_join, tree_of};
+
+use crate::tests::{pair, side};
 use std::alloc::{AllocError, Global};
 use std::test::Fail;
-use wt_symbol::{pair_fault, segments, visible};
+use wt_symbol::{Anchors, Side, pair_fault, segments, visible};
 
 /// A pair, and the first test that it fails.
 static FAULTS: [(&str, &str); 11] = [
@@ -28,22 +31,50 @@ fn has_fault(alloc: Global, text: &str, expected: &str) -> Result<bool, AllocErr
 
 #[test]
 fn tests_of_pairs_stand_in_order(rt: HostRuntime) -> Result<(), Fail> {
-    for (text, expected) in FAULTS {
+    for (text, expected) in &FAULTS {
         assert!(rt; has_fault(rt.alloc(), text, expected)?, "{text}");
     }
     Ok(())
 }
 
-/// Whether a join of leaf 0 with a projection of leaf 1 has its parts, size and weight.
+fn input_of(alloc: Global, r: u8) -> Result<Box<Side>, AllocError>
+    ensures { IfOk result (λ s. tree_of s.value ≡ input r) }
+{
+    Ok(Box::new(alloc, Side::Input(r))?)
+}
+
+/// A list of anchors.
+fn anchored(alloc: Global, leaves: &[u8]) -> Result<Anchors, AllocError>
+    ensures { IfOk result (λ anchors. anchors ≡ leaves.now) }
+{
+    Ok(Anchors::from_vec(Vec::from_slice(alloc, leaves)?))
+}
+
+/// A join of leaf 0 with a projection of leaf 1.
+fn join(alloc: Global) -> Result<Side, AllocError>
+    ensures { IfOk result (λ s. tree_of s ≡ inner_join 0 1 (input 0) (proj 2 (input 1))) }
+{
+    let right = Side::Proj(2, input_of(alloc, 1)?);
+    Ok(Side::InnerJoin(0, 1, input_of(alloc, 0)?, Box::new(alloc, right)?))
+}
+
+/// Whether the join has its parts and its leaves.
 fn a_join_has_two_parts(alloc: Global) -> Result<bool, AllocError> {
-    let join = side(alloc, "r0 r1 P2 I01")?;
-    let anchors = anchors(alloc, "011")?;
+    let join = join(alloc)?;
+    let anchors = anchored(alloc, &[0, 1, 1])?;
     let parts = segments(alloc, &join, &anchors)?;
     let text = format!(in alloc; "{:?}", parts.as_slice())?;
     Ok(
         text.as_str() == "[Part { leaf: 0, cols: Whole }, Part { leaf: 1, cols: List(2) }]"
-            && visible(&join, &anchors) == 0b11
-            && join.same(&join.copy(alloc)?)
+            && visible(&join, &anchors) == 0b11,
+    )
+}
+
+/// Whether the join has its size and weight, and is the same as its copy.
+fn a_join_is_measured(alloc: Global) -> Result<bool, AllocError> {
+    let join = side(alloc, "r0 r1 P2 I01")?;
+    Ok(
+        join.same(&join.copy(alloc)?)
             && !join.same(&side(alloc, "r0")?)
             && join.size() == 2
             && join.weight() == 7,
@@ -53,5 +84,6 @@ fn a_join_has_two_parts(alloc: Global) -> Result<bool, AllocError> {
 #[test]
 fn heads_have_parts(rt: HostRuntime) -> Result<(), Fail> {
     assert!(rt; a_join_has_two_parts(rt.alloc())?);
+    assert!(rt; a_join_is_measured(rt.alloc())?);
     Ok(())
 }

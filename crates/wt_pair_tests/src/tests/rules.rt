@@ -47,8 +47,8 @@ fn has_line(alloc: Global, text: &str, set: u64, expected: &str) -> Result<bool,
 
 #[test]
 fn rules_have_lines(rt: HostRuntime) -> Result<(), Fail> {
-    for (text, set, expected) in LINES {
-        assert!(rt; has_line(rt.alloc(), text, set, expected)?, "{text}");
+    for (text, set, expected) in &LINES {
+        assert!(rt; has_line(rt.alloc(), text, *set, expected)?, "{text}");
     }
     Ok(())
 }

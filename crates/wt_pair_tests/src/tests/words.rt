@@ -62,7 +62,7 @@ fn are(alloc: Global, text: &str, expected: &str) -> Result<bool, AllocError> {
 
 #[test]
 fn words_are_commands_or_refused(rt: HostRuntime) -> Result<(), Fail> {
-    for (text, expected) in WORDS {
+    for (text, expected) in &WORDS {
         assert!(rt; are(rt.alloc(), text, expected)?, "{text}");
     }
     Ok(())

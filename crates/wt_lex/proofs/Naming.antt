@@ -1,7 +1,8 @@
 -- A Word and a Quoted of a text stand for names that are UTF-8 and not empty, and a Text for content that is UTF-8.
 use Rattle.std.proofs.Common.{◌≡◌, ℕ, ◌+◌, ◌-◌, ◌/◌, ◌%◌, ◌<◌, ◌≤◌, Bool, true, false, List, [], ◌∷◌, ◌++◌, length, drop, refl, ap, ◌∙◌, subst, arith, length-drop}
-use Rattle.std.specs.Prelude.{if◌then◌else◌, ◌==◌, ◌&&◌, nat_lt}
-use Rattle.std.specs.Char.{to_ascii_lowercase}
+use Rattle.std.specs.Prelude.{if◌then◌else◌, ◌==◌, ◌&&◌, not, nat_lt}
+use Rattle.std.specs.Char.{is_ascii_uppercase, to_ascii_lowercase}
+use Rattle.std.specs.List.{list_all}
 use Rattle.std.specs.Str.{IsUtf8}
 use lib.Utf8.{encode, encodes, scalars, scalar}
 use Rattle.std.proofs.lemmas.Bool.Decides.{nat_tests}
@@ -58,6 +59,16 @@ undoubled-high_first q true (b ∷ z) rest h high some =
 and_both : (s t : Bool) → (s && t) ≡ true → (s ≡ true) × (t ≡ true)
 and_both true t e = (refl, e)
 and_both false t e = (e, absurd (cc))
+
+lower_stays : (b : ℕ) → not (is_ascii_uppercase b) ≡ true → to_ascii_lowercase b ≡ b
+lower_stays b h = grind (arith, nat_tests)
+
+-- a word without upper-case letters is in lower case
+pub folded_lower : (w : List ℕ) → list_all (λ b. not (is_ascii_uppercase b)) w ≡ true → folded w ≡ w
+folded_lower [] h = refl
+folded_lower (b ∷ w) h =
+    let (one, others) = and_both (not (is_ascii_uppercase b)) (list_all (λ b. not (is_ascii_uppercase b)) w) h in
+    (λ i. lower_stays b one i ∷ folded_lower w others i)
 
 ascii_then : (b : ℕ) (z : List ℕ) → b < 128 → IsUtf8 z → IsUtf8 (b ∷ z)
 ascii_then b z low h = IsUtf8-append (b ∷ []) z (IsUtf8-from_ascii (b ∷ []) (IsAscii-cons b [] low IsAscii-nil)) h

@@ -1,6 +1,9 @@
 -- No reserved word is left out of the table, and no two are spelled alike.
-use Rattle.std.proofs.Common.{◌≡◌, ℕ, true, List, Some, refl, ◌∙◌}
-use Rattle.std.specs.List.{find}
+use Rattle.std.proofs.Common.{◌≡◌, ℕ, ◌<◌, Bool, true, false, List, [], ◌∷◌, length, Some, refl, ap, sym, ◌∙◌, arith}
+use Rattle.std.specs.Prelude.{if◌then◌else◌, ◌==◌, ◌||◌, filter, slice_index}
+use Rattle.std.specs.Char.{to_ascii_lowercase}
+use Rattle.std.specs.List.{find, list_any}
+use Rattle.std.proofs.lemmas.Bool.Decides.{nat_tests}
 use Rattle.std.specs.Str.{bytes_eq}
 use Rattle.std.proofs.lemmas.Slice.Eq.{bytes_eq-Decides}
 use Rattle.wt_lex.specs.declared.token.Token.{Token}
@@ -8,8 +11,8 @@ use Rattle.wt_lex.specs.declared.words.Word.{Word}
 use Rattle.wt_lex.specs.declared.words.Word.TheVariants as word
 use Rattle.wt_lex.specs.declared.token.TokenKind.{TokenKind}
 use Rattle.wt_lex.specs.declared.token.TokenKind.TheVariants as kinds
-use Rattle.wt_lex.specs.Names.{folded, spelled, is_word, word_by, keyword}
-use Rattle.wt_lex.specs.Words.{spelling, all_words, is_reserved}
+use Rattle.wt_lex.specs.Names.{folded, is_folded, spelled, is_word, word_by, keyword}
+use Rattle.wt_lex.specs.Words.{spelling, all_words, words_from, is_reserved}
 
 -- each word is found by its spelling
 pub found : (w : Word) → find (λ other. bytes_eq (spelling w) (spelling other)) all_words ≡ Some w
@@ -186,3 +189,39 @@ keyword_is bytes t w = by t.kind
     by kinds.Text h = absurd cc
     by (kinds.Symbol s) h = absurd cc
     by (kinds.Odd f) h = absurd cc
+
+-- ---- the words of a letter are all that need to be looked at
+
+find-filter : {X : Type 0} (p q : X → Bool) → ((x : X) → p x ≡ true → q x ≡ true) → (xs : List X) → find p (filter q xs) ≡ find p xs
+find-filter p q h [] = refl
+find-filter {X} p q h (x ∷ xs) = by (q x) refl (p x) refl (find-filter p q h xs)
+  where
+    by : (t : Bool) → q x ≡ t → (s : Bool) → p x ≡ s → find p (filter q xs) ≡ find p xs → find p (filter q (x ∷ xs)) ≡ find p (x ∷ xs)
+    by true e s f ih = rw e (ap (λ r. if p x then Some x else r) ih)
+    by false e true f ih = let g = h x f in absurd cc
+    by false e false f ih = rw (e, f) ih
+
+any-filter : {X : Type 0} (p q : X → Bool) → ((x : X) → p x ≡ true → q x ≡ true) → (xs : List X) → list_any p (filter q xs) ≡ list_any p xs
+any-filter p q h [] = refl
+any-filter {X} p q h (x ∷ xs) = by (q x) refl (p x) refl (any-filter p q h xs)
+  where
+    by : (t : Bool) → q x ≡ t → (s : Bool) → p x ≡ s → list_any p (filter q xs) ≡ list_any p xs → list_any p (filter q (x ∷ xs)) ≡ list_any p (x ∷ xs)
+    by true e s f ih = rw e (ap (λ r. p x || r) ih)
+    by false e true f ih = let g = h x f in absurd cc
+    by false e false f ih = rw (e, f) ih
+
+same_first : (b : ℕ) (w : Word) (name : List ℕ) → spelling w ≡ b ∷ name → (slice_index (spelling w) 0 == b) ≡ true
+same_first b w name e = ap (λ l. slice_index l 0 == b) e ∙ grind (arith, nat_tests)
+
+pub reserved_from : (word : List ℕ) → 0 < length word → list_any (λ w. bytes_eq (spelling w) word) (words_from (slice_index word 0)) ≡ is_reserved word
+reserved_from [] some = absurd (omega arith)
+reserved_from (b ∷ name) some =
+    any-filter (λ w. bytes_eq (spelling w) (b ∷ name)) (λ w. slice_index (spelling w) 0 == b)
+    (λ w h. same_first b w name ((bytes_eq-Decides (spelling w) (b ∷ name)).0 h)) all_words
+
+pub found_from : (word : List ℕ) → 0 < length word
+    → find (λ w. is_folded word (spelling w)) (words_from (to_ascii_lowercase (slice_index word 0))) ≡ find (λ w. is_folded word (spelling w)) all_words
+found_from [] some = absurd (omega arith)
+found_from (b ∷ name) some =
+    find-filter (λ w. is_folded (b ∷ name) (spelling w)) (λ w. slice_index (spelling w) 0 == to_ascii_lowercase b)
+    (λ w h. same_first (to_ascii_lowercase b) w (folded name) (sym ((bytes_eq-Decides (folded (b ∷ name)) (folded (spelling w))).0 h ∙ lower w))) all_words

@@ -1,9 +1,10 @@
 -- Bytes fall into those of which a test holds and the others; into what stands between quotes and the rest; into what stands
 -- before the first end of a comment and the rest.
-use Rattle.std.proofs.Common.{◌≡◌, ℕ, ◌+◌, Bool, true, false, ◌⊎◌, inl, inr, List, [], ◌∷◌, ◌++◌, length, refl, ap, sym, ◌∙◌, arith, Some, None}
-use Rattle.std.specs.Prelude.{if◌then◌else◌, ◌==◌, ◌&&◌}
+use Rattle.std.proofs.Common.{◌≡◌, ℕ, suc, ◌+◌, ◌<◌, Bool, true, false, ◌⊎◌, inl, inr, List, [], ◌∷◌, ◌++◌, length, drop, length-drop, refl, ap, sym, ◌∙◌, arith, Some, None}
+use Rattle.std.specs.Prelude.{◌≢◌, if◌then◌else◌, ◌==◌, ◌&&◌, not, slice_index}
 use Rattle.std.specs.List.{list_all, prefix_len}
 use Rattle.std.proofs.lemmas.Bool.Decides.{nat_tests}
+use Rattle.std.proofs.lemmas.List.{drop_more, drop-drop, get_or-drop}
 use Rattle.wt_lex.specs.Fronts.{closing, comment_end}
 use Rattle.wt_lex.specs.Spelling.{EndsBefore, Are, HasNoEnd, doubled}
 
@@ -202,3 +203,64 @@ comment_open star at [] h = refl
 comment_open star at (b ∷ z) h =
     ap (λ t. if t then Some (at + 1) else comment_end (b == 42) (at + 1) z) (not_closed star b z h)
     ∙ comment_open (b == 42) (at + 1) z (star_next star b z h (b == 42) refl)
+
+-- ---- bytes of a comment that are no `*` do not close it
+
+abbrev no_star : ℕ → Bool
+no_star b = not (b == 42)
+
+one_more : (b : ℕ) (z : List ℕ) → (b == 42) ≡ false → prefix_len no_star (b ∷ z) ≡ suc (prefix_len no_star z)
+one_more b z e = ap (λ t. if not t then 1 + prefix_len no_star z else 0) e ∙ omega arith
+
+none_more : (b : ℕ) (z : List ℕ) → (b == 42) ≡ true → prefix_len no_star (b ∷ z) ≡ 0
+none_more b z e = ap (λ t. if not t then 1 + prefix_len no_star z else 0) e
+
+pub pass_over : (at : ℕ) (z : List ℕ) → comment_end false (at + prefix_len (λ b. not (b == 42)) z) (drop (prefix_len (λ b. not (b == 42)) z) z) ≡ comment_end false at z
+pass_over at [] = refl
+pass_over at (b ∷ z) = by (b == 42) refl (pass_over (at + 1) z)
+  where
+    by : (t : Bool) → (b == 42) ≡ t → comment_end false (at + 1 + prefix_len no_star z) (drop (prefix_len no_star z) z) ≡ comment_end false (at + 1) z
+        → comment_end false (at + prefix_len no_star (b ∷ z)) (drop (prefix_len no_star (b ∷ z)) (b ∷ z)) ≡ comment_end false at (b ∷ z)
+    by true e ih = ap (λ n. comment_end false (at + n) (drop n (b ∷ z))) (none_more b z e) ∙ ap (λ n. comment_end false n (b ∷ z)) {x = at + 0} {y = at} (omega arith)
+    by false e ih =
+        ap (λ n. comment_end false (at + n) (drop n (b ∷ z))) (one_more b z e)
+        ∙ ap (λ n. comment_end false n (drop (prefix_len no_star z) z)) {x = at + suc (prefix_len no_star z)} {y = at + 1 + prefix_len no_star z} (omega arith)
+        ∙ ih ∙ ap (λ t. comment_end t (at + 1) z) (sym e)
+
+-- and a `*` stands behind them
+pub star_behind : (z : List ℕ) → prefix_len (λ b. not (b == 42)) z < length z → slice_index z (prefix_len (λ b. not (b == 42)) z) ≡ 42
+star_behind [] h = absurd (omega arith)
+star_behind (b ∷ z) h = by (b == 42) refl (star_behind z)
+  where
+    by : (t : Bool) → (b == 42) ≡ t → (prefix_len no_star z < length z → slice_index z (prefix_len no_star z) ≡ 42) → slice_index (b ∷ z) (prefix_len no_star (b ∷ z)) ≡ 42
+    by true e ih = ap (slice_index (b ∷ z)) (none_more b z e) ∙ quote_is b 42 e
+    by false e ih = let n = one_more b z e in ap (slice_index (b ∷ z)) n ∙ ih (omega (arith, h, n))
+
+-- a `*` closes where a `/` follows, and else nothing has changed behind it
+pub star_closes : (at : ℕ) (z : List ℕ) → slice_index z 0 ≡ 47 → comment_end true at z ≡ Some (at + 1)
+star_closes at [] h = absurd (omega (arith, h))
+star_closes at (b ∷ z) h = ap (λ b. comment_end true at (b ∷ z)) h
+
+pub star_goes_on : (at : ℕ) (z : List ℕ) → slice_index z 0 ≢ 47 → comment_end true at z ≡ comment_end false at z
+star_goes_on at [] h = refl
+star_goes_on at (b ∷ z) h = let e : (b == 47) ≡ false = grind (arith, nat_tests) in rw e
+
+-- from one `*` that does not close to the next
+pub next_star : (at k : ℕ) (text : List ℕ) → at < length text → slice_index text at ≡ 42 → slice_index text (at + 1) ≢ 47 → k ≡ prefix_len (λ b. not (b == 42)) (drop (at + 1) text)
+    → comment_end false (2 + (at + (1 + k))) (drop (at + (1 + k)) text) ≡ comment_end false (2 + at) (drop at text)
+next_star at k text within star follows e =
+    let z = drop (at + 1) text in
+    let whole : drop at text ≡ 42 ∷ z = drop_more text at 0 within ∙ ap (λ b. b ∷ z) star in
+    let front : slice_index z 0 ≢ 47 = λ h. follows (ap (slice_index text) {y = at + 1 + 0} (omega arith) ∙ sym (get_or-drop (at + 1) text 0 0) ∙ h) in
+    ap (λ n. comment_end false (2 + n) (drop n text)) {x = at + (1 + k)} {y = at + 1 + k} (omega arith)
+    ∙ ap (comment_end false (2 + (at + 1 + k))) (sym (drop-drop k (at + 1) text))
+    ∙ ap (λ n. comment_end false (2 + (at + 1 + n)) (drop n z)) e
+    ∙ ap (λ n. comment_end false n (drop (prefix_len no_star z) z)) {x = 2 + (at + 1 + prefix_len no_star z)} {y = 2 + at + 1 + prefix_len no_star z} (omega arith)
+    ∙ pass_over (2 + at + 1) z
+    ∙ sym (star_goes_on (2 + at + 1) z front)
+    ∙ ap (comment_end false (2 + at)) (sym whole)
+
+pub next_is_star : (at k : ℕ) (text : List ℕ) → k ≡ prefix_len (λ b. not (b == 42)) (drop (at + 1) text) → at + (1 + k) < length text → slice_index text (at + (1 + k)) ≡ 42
+next_is_star at k text e within =
+    ap (slice_index text) {y = at + 1 + k} (omega arith) ∙ sym (get_or-drop (at + 1) text k 0) ∙ ap (slice_index (drop (at + 1) text)) e
+    ∙ star_behind (drop (at + 1) text) (omega (arith, within, e, length-drop (at + 1) text))

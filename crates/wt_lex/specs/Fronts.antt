@@ -12,11 +12,12 @@ use Rattle.wt_lex.specs.declared.token.Sym.TheVariants as sym
 use Rattle.wt_lex.specs.declared.token.TokenKind.{TokenKind}
 use Rattle.wt_lex.specs.declared.token.TokenKind.TheVariants.{Word, Quoted, Number, Text, Symbol, Odd}
 
--- a letter, a digit or `_`; a digit; a byte before the line's end
+-- a letter, a digit or `_`; a digit; a byte before the line's end; one that is no `*`
 abbrev pub is_in : Class → ℕ → Bool
 is_in class.Word b = is_ascii_alphanumeric b || b == 95
 is_in class.Digit b = is_ascii_digit b
 is_in class.Line b = not (b == 10)
+is_in class.NoStar b = not (b == 42)
 
 -- blank, tab, LF, CR
 abbrev pub is_blank : ℕ → Bool

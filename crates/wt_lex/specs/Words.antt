@@ -1,5 +1,5 @@
 -- The reserved words, and the names that are written without quotes.
-use Rattle.std.specs.Prelude.{ℕ, Bool, false, not, ◌&&◌, ◌||◌, ◌==◌, nat_le, List, [], ◌∷◌, codes}
+use Rattle.std.specs.Prelude.{ℕ, Bool, false, not, ◌&&◌, ◌||◌, ◌==◌, nat_le, List, [], ◌∷◌, codes, filter, slice_index}
 use Rattle.std.specs.List.{list_any, list_all}
 use Rattle.std.specs.Str.{bytes_eq}
 use Rattle.wt_lex.specs.declared.words.Word.{Word}
@@ -68,6 +68,10 @@ all_words =
     word.Join ∷ word.Left ∷ word.Like ∷ word.Limit ∷ word.Natural ∷ word.Not ∷ word.Null ∷ word.Offset ∷ word.On ∷ word.Or ∷
     word.Order ∷ word.Outer ∷ word.Primary ∷ word.References ∷ word.Right ∷ word.Select ∷ word.Similar ∷ word.Table ∷
     word.True ∷ word.Union ∷ word.Unique ∷ word.Using ∷ word.Where ∷ word.Window ∷ word.With ∷ []
+
+-- the reserved words that begin with a letter, given in lower case
+abbrev pub words_from : ℕ → List Word
+words_from b = filter (λ w. slice_index (spelling w) 0 == b) all_words
 
 -- a word, given in lower case, is reserved: it is a name only in quotes
 abbrev pub is_reserved : List ℕ → Bool

@@ -22,6 +22,7 @@ enum Class {
     Word,
     Digit,
     Line,
+    NoStar,
 }
 
 fn is_in(class: Class, byte: u8) -> bool
@@ -31,6 +32,7 @@ fn is_in(class: Class, byte: u8) -> bool
         Class::Word => byte.is_ascii_alphanumeric() || byte == b'_',
         Class::Digit => byte.is_ascii_digit(),
         Class::Line => byte != b'\n',
+        Class::NoStar => byte != b'*',
     }
 }
 
@@ -140,20 +142,17 @@ fn closing(quote: u8, mut text: &[u8]) -> Option<usize>
 }
 
 // The length of a comment, from the bytes behind its first two.
-fn comment_end(mut text: &[u8]) -> Option<usize>
+fn comment_end(text: &[u8]) -> Option<usize>
     requires { length text.now < 2 ^ 63 }
-    ensures value { result ≡ spec.comment_end false 2 text.entry.now }
-    ensures within { IfSome result (λ end. (1 ≤ end) × (end ≤ length text.entry.now + 2)) }
+    ensures value { result ≡ spec.comment_end false 2 text.now }
+    ensures within { IfSome result (λ end. (1 ≤ end) × (end ≤ length text.now + 2)) }
 {
-    let mut star = false;
-    let mut at = 2;
-    'bytes: while let [byte, rest @ ..] = text {
-        if star && *byte == b'/' {
-            return Some(at + 1);
+    let mut at = run(Class::NoStar, text);
+    'stars: while at < text.len() {
+        if byte_at(text, at + 1) == b'/' {
+            return Some(at + 4);
         }
-        star = *byte == b'*';
-        at += 1;
-        text = rest;
+        at += 1 + run(Class::NoStar, &text[at + 1..]);
     }
     None
 }

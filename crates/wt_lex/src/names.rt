@@ -1,4 +1,6 @@
-ghost use Rattle.std.specs.Prelude.{◌≡◌, ◌-◌, ◌++◌, take, drop, map, false, IfOk};
+ghost use Rattle.std.specs.Prelude.{◌≡◌, ◌-◌, ◌++◌, take, drop, map, false, not, IfOk};
+ghost use Rattle.std.specs.Char.{is_ascii_uppercase};
+ghost use Rattle.std.specs.List.{list_all};
 ghost use Rattle.wt_lex.specs.Names as spec;
 
 use crate::token::{Token, TokenKind};
@@ -12,7 +14,7 @@ pub fn name_of(alloc: Global, bytes: &[u8], token: &Token) -> Result<Name, WantO
 {
     let token = *token;
     match token.kind {
-        TokenKind::Word => Name::from_bytes(alloc, &folded(alloc, spelled(bytes, token))?),
+        TokenKind::Word => lower_name(alloc, spelled(bytes, token)),
         TokenKind::Quoted => Name::from_bytes(
             alloc,
             &undoubled(alloc, b'"', inside(bytes, token))?,
@@ -44,13 +46,13 @@ pub fn is_word(bytes: &[u8], token: &Token, word: &[u8]) -> bool
     }
 }
 
-fn is_folded(spelled: &[u8], word: &[u8]) -> bool
+pub(crate) fn is_folded(spelled: &[u8], word: &[u8]) -> bool
     ensures { result ≡ spec.is_folded spelled.now word.now }
 {
     spelled.eq_ignore_ascii_case(word)
 }
 
-fn spelled(bytes: &[u8], token: Token) -> &[u8]
+pub(crate) fn spelled(bytes: &[u8], token: Token) -> &[u8]
     ensures { result.now ≡ spec.spelled bytes.now token }
 {
     piece(bytes, token.start as usize, token.end as usize)
@@ -73,6 +75,23 @@ pub(crate) fn piece(bytes: &[u8], from: usize, to: usize) -> &[u8]
     let (_, rest) = bytes.split_at(from.min(bytes.len()));
     let (front, _) = rest.split_at(to.saturating_sub(from).min(rest.len()));
     front
+}
+
+// A word that is in lower case already is copied as it stands.
+fn lower_name(alloc: Global, word: &[u8]) -> Result<Name, WantOfMemory>
+    ensures { IfOk result (λ name. name ≡ spec.folded word.now) }
+{
+    if is_lower(word) {
+        Name::from_bytes(alloc, word)
+    } else {
+        Name::from_bytes(alloc, &folded(alloc, word)?)
+    }
+}
+
+fn is_lower(word: &[u8]) -> bool
+    ensures { result ≡ list_all (λ b. not (is_ascii_uppercase b)) word.now }
+{
+    word.iter().all(|byte| !byte.is_ascii_uppercase())
 }
 
 fn folded(alloc: Global, word: &[u8]) -> Result<Vec<u8>, WantOfMemory>

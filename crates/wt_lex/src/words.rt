@@ -5,8 +5,8 @@ ghost use Rattle.std.specs.Str.{bytes_eq};
 ghost use Rattle.wt_lex.specs.Names as names;
 ghost use Rattle.wt_lex.specs.Words as spec;
 
-use crate::names::is_word;
-use crate::token::Token;
+use crate::names::{is_folded, spelled};
+use crate::token::{Token, TokenKind};
 
 /// The reserved words, which are names only in quotes.
 #[derive(Clone, Copy, Debug, PartialEq, Eq)]
@@ -63,60 +63,6 @@ pub enum Word {
     Window,
     With,
 }
-
-static WORDS: [Word; 51] = [
-    Word::All,
-    Word::And,
-    Word::As,
-    Word::Between,
-    Word::Case,
-    Word::Cast,
-    Word::Check,
-    Word::Constraint,
-    Word::Create,
-    Word::Cross,
-    Word::Default,
-    Word::Distinct,
-    Word::Except,
-    Word::Exists,
-    Word::False,
-    Word::Fetch,
-    Word::Foreign,
-    Word::From,
-    Word::Full,
-    Word::Group,
-    Word::Having,
-    Word::Ilike,
-    Word::In,
-    Word::Inner,
-    Word::Intersect,
-    Word::Is,
-    Word::Join,
-    Word::Left,
-    Word::Like,
-    Word::Limit,
-    Word::Natural,
-    Word::Not,
-    Word::Null,
-    Word::Offset,
-    Word::On,
-    Word::Or,
-    Word::Order,
-    Word::Outer,
-    Word::Primary,
-    Word::References,
-    Word::Right,
-    Word::Select,
-    Word::Similar,
-    Word::Table,
-    Word::True,
-    Word::Union,
-    Word::Unique,
-    Word::Using,
-    Word::Where,
-    Word::Window,
-    Word::With,
-];
 
 impl Word {
     /// How a reserved word is spelled, in lower case.
@@ -179,13 +125,63 @@ impl Word {
     }
 }
 
+// The reserved words that begin with a letter, given in lower case.
+fn words_from(letter: u8) -> &'static [Word]
+    ensures { result.now ≡ spec.words_from letter }
+{
+    match letter {
+        b'a' => &[Word::All, Word::And, Word::As],
+        b'b' => &[Word::Between],
+        b'c' => &[
+            Word::Case,
+            Word::Cast,
+            Word::Check,
+            Word::Constraint,
+            Word::Create,
+            Word::Cross,
+        ],
+        b'd' => &[Word::Default, Word::Distinct],
+        b'e' => &[Word::Except, Word::Exists],
+        b'f' => &[
+            Word::False,
+            Word::Fetch,
+            Word::Foreign,
+            Word::From,
+            Word::Full,
+        ],
+        b'g' => &[Word::Group],
+        b'h' => &[Word::Having],
+        b'i' => &[
+            Word::Ilike,
+            Word::In,
+            Word::Inner,
+            Word::Intersect,
+            Word::Is,
+        ],
+        b'j' => &[Word::Join],
+        b'l' => &[Word::Left, Word::Like, Word::Limit],
+        b'n' => &[Word::Natural, Word::Not, Word::Null],
+        b'o' => &[Word::Offset, Word::On, Word::Or, Word::Order, Word::Outer],
+        b'p' => &[Word::Primary],
+        b'r' => &[Word::References, Word::Right],
+        b's' => &[Word::Select, Word::Similar],
+        b't' => &[Word::Table, Word::True],
+        b'u' => &[Word::Union, Word::Unique, Word::Using],
+        b'w' => &[Word::Where, Word::Window, Word::With],
+        _ => &[],
+    }
+}
+
 /// Whether a word, given in lower case, is reserved: such a word is a name only in quotes.
 pub fn is_reserved(word: &[u8]) -> bool
     ensures value { result ≡ spec.is_reserved word.now }
     // No reserved word is left out.
     ensures each { (w : Word) → spec.spelling w ≡ word.now → result ≡ true }
 {
-    is_among(word, &WORDS)
+    match word {
+        [first, ..] => is_among(word, words_from(*first)),
+        [] => false,
+    }
 }
 
 fn is_among(word: &[u8], words: &[Word]) -> bool
@@ -200,16 +196,29 @@ pub fn keyword(bytes: &[u8], token: &Token) -> Option<Word>
     // A token that is a reserved word is that one.
     ensures each { (w : Word) → names.is_word bytes.now token.now (spec.spelling w) ≡ true → result ≡ Some w }
 {
-    keyword_among(bytes, token, &WORDS)
+    let token = *token;
+    match token.kind {
+        TokenKind::Word => keyword_of(spelled(bytes, token)),
+        _ => None,
+    }
 }
 
-fn keyword_among(bytes: &[u8], token: &Token, words: &[Word]) -> Option<Word>
-    ensures { result ≡ find (λ w. names.is_word bytes.now token.now (spec.spelling w)) words.now }
+fn keyword_of(spelled: &[u8]) -> Option<Word>
+    ensures { result ≡ find (λ w. names.is_folded spelled.now (spec.spelling w)) spec.all_words }
+{
+    match spelled {
+        [first, ..] => keyword_among(spelled, words_from(first.to_ascii_lowercase())),
+        [] => None,
+    }
+}
+
+fn keyword_among(spelled: &[u8], words: &[Word]) -> Option<Word>
+    ensures { result ≡ find (λ w. names.is_folded spelled.now (spec.spelling w)) words.now }
 {
     words
         .iter()
         .copied()
-        .find(|word| is_word(bytes, token, word.spelling()))
+        .find(|word| is_folded(spelled, word.spelling()))
 }
 
 fn begins_bare(byte: u8) -> bool

@@ -1,0 +1,5 @@
+pub mod Orders
+pub mod Bits
+pub mod CoreLaws
+pub mod Gaining
+pub mod Searching

@@ -1,0 +1,12 @@
+//! The rules of a pair by cores: least provable sets of its atoms, found from the set of all atoms down.
+#![tactic(auto)]
+
+mod found;
+mod laws;
+mod level;
+mod ordered;
+mod rules;
+
+pub use laws::{rules_are_cores, what_is_left_is_a_core};
+pub use ordered::{insert, is_among};
+pub use rules::{AtomSets, rules_of_pair};

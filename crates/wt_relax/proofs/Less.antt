@@ -12,8 +12,9 @@ use Rattle.wt_constraint.specs.Sets.{HasAtom}
 use Rattle.wt_symbol.specs.Sides.{PairTree}
 use Rattle.wt_form.specs.Under.{Provable}
 use Rattle.wt_form.specs.Relaxed.{LeavesOut}
-use Rattle.wt_relax.specs.SetLists.{Gains, IsStepFrom, IsStepFromSome}
-use Rattle.wt_relax.proofs.Orders.{set_is}
+use Rattle.wt_cores.specs.SetLists.{Gains}
+use Rattle.wt_relax.specs.SetLists.{IsStepFrom, IsStepFromSome}
+use Rattle.wt_cores.proofs.Orders.{set_is}
 
 pub less_leaves : (set less : AtomSet) (i : ℕ) → HasAtom set i → less.0 + bit_at set.0 i * 2 ^ i ≡ set.0 → LeavesOut set i less
 less_leaves set less i there e = record { there = there; number = ap (λ b. less.0 + b) (one (bit_at set.0 i) (2 ^ i) there.bit) ∙ e }

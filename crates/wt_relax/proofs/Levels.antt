@@ -10,7 +10,8 @@ use Rattle.wt_symbol.specs.Sides.{PairTree}
 use Rattle.wt_constraint.specs.declared.set.AtomSet.{AtomSet}
 use Rattle.wt_form.specs.Under.{Provable}
 use Rattle.wt_form.specs.Relaxed.{LeavesOut, Relaxed, IsLeast, IsRule}
-use Rattle.wt_relax.specs.SetLists.{AreThose, Gains, IsStepFromSome}
+use Rattle.wt_cores.specs.SetLists.{Gains}
+use Rattle.wt_relax.specs.SetLists.{AreThose, IsStepFromSome}
 
 module _ (p : PairTree) (k : ℕ) where
   -- one level more

@@ -1,6 +1,6 @@
 -- Lists of sets of atoms.
-use Rattle.std.specs.Prelude.{ℕ, ◌<◌, ◌≤◌, ◌≡◌, ◌⊎◌, ◌↔◌, List, length}
-use Rattle.wt_bag.specs.Choices.{Has, EachLater}
+use Rattle.std.specs.Prelude.{ℕ, ◌≤◌, ◌≡◌, ◌↔◌, List, length}
+use Rattle.wt_bag.specs.Choices.{Has}
 use Rattle.wt_symbol.specs.Sides.{PairTree}
 use Rattle.wt_symbol.specs.Lawful.{IsLawful}
 use Rattle.wt_constraint.specs.declared.atom.Atom.{Atom}
@@ -10,17 +10,9 @@ use Rattle.wt_form.specs.Under.{Provable}
 use Rattle.wt_prover.specs.SideTowers.{IsTower}
 use Rattle.wt_form.specs.Relaxed.{LeavesOut}
 
--- ascending as numbers, none twice
-abbrev pub Ascending : List AtomSet → Type 0
-Ascending = EachLater (λ s t. s.0 < t.0)
-
 -- the sets of the list, and no others, have the property
 abbrev pub AreThose : (AtomSet → Type 0) → List AtomSet → Type 0
 AreThose P sets = (s : AtomSet) → (Has s sets ↔ P s)
-
--- the second list has the sets of the first and those of the property
-abbrev pub Gains : List AtomSet → List AtomSet → (AtomSet → Type 0) → Type 0
-Gains old new P = (s : AtomSet) → (Has s new ↔ (Has s old ⊎ P s))
 
 -- s is provable and leaves out one atom of t
 abbrev pub IsStepFrom : PairTree → ℕ → AtomSet → AtomSet → Type 0

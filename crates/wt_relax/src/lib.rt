@@ -2,7 +2,6 @@
 //! atoms from the full set.
 #![tactic(auto)]
 
-mod ordered;
 mod relax;
 
 pub use relax::{AtomSets, rules_of_pair};

@@ -7,11 +7,12 @@ ghost use Rattle.wt_constraint.specs.declared.set.AtomSet.{AtomSet};
 ghost use Rattle.wt_form.specs.Under.{Provable};
 ghost use Rattle.wt_form.specs.Relaxed.{LeavesOut, Relaxed, IsLeast, AreRules};
 ghost use Rattle.wt_prover.specs.SideTowers.{IsTower};
-ghost use Rattle.wt_relax.specs.SetLists.{Ascending, AreThose, Gains, IsStepFrom, IsStepFromSome, IsReady};
+ghost use Rattle.wt_cores.specs.SetLists.{Ascending, Gains};
+ghost use Rattle.wt_relax.specs.SetLists.{AreThose, IsStepFrom, IsStepFromSome, IsReady};
 
-use crate::ordered::{insert, is_among};
 use std::alloc::{AllocError, Global};
 use wt_constraint::{AtomSet, Atoms, atoms_of, full, has, without};
+use wt_cores::{insert, is_among};
 use wt_prover::prove_with;
 use wt_symbol::Pair;
 use wt_value::Seq;

@@ -1,6 +1,7 @@
 use Rattle.std.proofs.Common.{take}
 use Rattle.wt_symbol.specs.Sides.{pair_of}
-use Rattle.wt_relax.specs.SetLists.{AreThose, Ascending}
+use Rattle.wt_cores.specs.SetLists.{Ascending}
+use Rattle.wt_relax.specs.SetLists.{AreThose}
 use Rattle.wt_relax.proofs.Levels.{LeastOf}
 use Rattle.wt_relax.proofs.relax.least_of.Given as goal
 

@@ -1,5 +1,5 @@
 use Rattle.wt_symbol.specs.Sides.{pair_of}
-use Rattle.wt_relax.specs.SetLists.{Gains, Ascending}
+use Rattle.wt_cores.specs.SetLists.{Gains, Ascending}
 use Rattle.wt_relax.proofs.Less.{StepBelow}
 use Rattle.wt_relax.proofs.relax.push_all_less.Given as goal
 

@@ -1,6 +1,7 @@
 use Rattle.std.proofs.Common.{take}
 use Rattle.wt_symbol.specs.Sides.{pair_of}
-use Rattle.wt_relax.specs.SetLists.{Gains, Ascending, IsStepFromSome}
+use Rattle.wt_cores.specs.SetLists.{Gains, Ascending}
+use Rattle.wt_relax.specs.SetLists.{IsStepFromSome}
 use Rattle.wt_relax.proofs.relax.push_next.Given as goal
 
 abbrev pub invariant-loop-set : goal.invariant-loop-set

@@ -1,7 +1,8 @@
 use Rattle.std.proofs.Common.{sym, subst}
 use Rattle.wt_symbol.specs.Sides.{pair_of}
 use Rattle.wt_form.specs.Relaxed.{IsRule}
-use Rattle.wt_relax.specs.SetLists.{AreThose, Ascending}
+use Rattle.wt_cores.specs.SetLists.{Ascending}
+use Rattle.wt_relax.specs.SetLists.{AreThose}
 use Rattle.wt_relax.proofs.Levels.{rules_are, LeastOf}
 use Rattle.wt_relax.proofs.relax.rules_of_pair.Goals as goal
 

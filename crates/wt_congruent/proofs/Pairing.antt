@@ -1,12 +1,12 @@
 -- Places among those that are left.
-use Rattle.std.proofs.Common.{◌⊎◌, ℕ, zero, suc, ◌≡◌, ◌+◌, ◌<◌, ◌≤◌, ◌↔◌, Bool, true, false, List, [], ◌∷◌, ◌++◌, length, map, take, remove, get_or, refl, sym, ap, ◌∙◌, subst, arith, inl, inr, nat_eq, nat_lt, cond, eqb-true}
+use Rattle.std.proofs.Common.{◌⊎◌, ℕ, zero, suc, ◌≡◌, ◌+◌, ◌<◌, ◌≤◌, ◌↔◌, Bool, true, List, [], ◌∷◌, ◌++◌, length, map, take, remove, get_or, refl, sym, ap, ◌∙◌, subst, arith, inl, inr, nat_eq, eqb-true}
 use Rattle.std.proofs.lemmas.Bool.{cases_order}
 use Rattle.std.proofs.lemmas.List.{take_more, take_all}
 use Rattle.wt_bag.specs.Choices.{At, Has, drop_at}
 use Rattle.wt_bag.proofs.HasLaws.{has_left, has_right, has_split, has_map, has_from_map}
 use Rattle.wt_symbol.specs.declared.head.Part.{Part}
 use Rattle.wt_form.specs.declared.form.Expr.{Expr}
-use Rattle.wt_form.specs.Trees.{Terms, no_terms, term_then, Ranges, range_then, FormRange, distinct_of, Conds, Cond, is_in, not_in}
+use Rattle.wt_form.specs.Trees.{Terms, no_terms, term_then, Ranges, range_then, FormRange, distinct_of, Cond, is_in, not_in}
 use Rattle.wt_form.specs.Parts.{terms_count, ranges_at, conds_at, pieces_at, terms_without, ranges_list, conds_list}
 use Rattle.wt_form.specs.Known.{Known, heads_same}
 use Rattle.wt_form.specs.Congruent.{TermsSame, RangesSame, RangeSame, CondsSame, CondSame, expr_same, pieces_same}

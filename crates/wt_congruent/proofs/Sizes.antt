@@ -1,7 +1,6 @@
 -- Congruent forms have one size.
-use Rattle.std.proofs.Common.{ℕ, zero, suc, ◌+◌, ◌<◌, ◌≡◌, ◌⊎◌, true, List, [], ◌∷◌, refl, sym, ap, ◌∙◌, arith}
+use Rattle.std.proofs.Common.{ℕ, zero, suc, ◌+◌, ◌<◌, ◌≡◌, List, [], ◌∷◌, refl, sym, ap, arith}
 use Rattle.wt_bag.specs.Choices.{At, drop_at}
-use Rattle.wt_form.specs.declared.form.Expr.{Expr}
 use Rattle.wt_form.specs.Trees.{Terms, no_terms, term_then, Ranges, no_ranges, range_then, FormRange, Rel, distinct_of, Conds, no_conds, cond_then, Cond, Pred, Join, is_in, not_in}
 use Rattle.wt_form.specs.Parts.{terms_count, ranges_at, conds_at, terms_without, ranges_list, conds_list}
 use Rattle.wt_form.specs.Known.{Known}

@@ -1,2 +1,1 @@
-pub mod Sames
 pub mod Refs

@@ -3,14 +3,14 @@ ghost use Rattle.std.specs.Prelude.{◌≡◌, ◌↔◌, ◌+◌, ◌<◌, ◌+
 ghost use Rattle.wt_bag.specs.Choices.{Has, At, drop_at};
 ghost use Rattle.wt_form.specs.Congruent.{TermsSame, RangesSame, RangeSame, CondsSame, CondSame};
 ghost use Rattle.wt_form.specs.Views.{terms_seen, ranges_seen, range_seen, conds_seen, cond_seen, terms_from, term_seen};
-ghost use Rattle.wt_congruent.specs.Sames.{known_of};
+ghost use Rattle.wt_facts.specs.Facts.{known_of};
 ghost use Rattle.wt_congruent.specs.Refs.{term_behind, range_behind, cond_behind, TermIs};
 
 use crate::exprs::{same_expr, same_head, same_pieces};
 use crate::places::Places;
 use crate::refs::{cond_refs, range_refs, term_refs, without};
-use crate::sames::Sames;
 use std::alloc::{AllocError, Global};
+use wt_facts::Facts;
 use wt_form::{Cond, Conds, FormRange, Ranges, Term, Terms};
 
 /// The place, and then each of the lists.
@@ -35,15 +35,15 @@ fn push_first(
 #[cycle(same)]
 fn partners(
     alloc: Global,
-    sames: &Sames,
+    facts: &Facts,
     range: &FormRange,
     left: &[&FormRange],
 ) -> Result<Vec<usize>, AllocError>
-    ensures { IfOk result (λ out. (j : ℕ) → (Has j out.items ↔ At (RangeSame (known_of sames.now) (range_seen range.now)) j (map range_behind left.now))) }
+    ensures { IfOk result (λ out. (j : ℕ) → (Has j out.items ↔ At (RangeSame (known_of facts.now) (range_seen range.now)) j (map range_behind left.now))) }
 {
     let mut out = Vec::new(alloc);
     for j in 0..left.len() {
-        if same_range(alloc, sames, range, left[j])? {
+        if same_range(alloc, facts, range, left[j])? {
             out.push(j)?;
         }
     }
@@ -54,11 +54,11 @@ fn partners(
 #[cycle(same)]
 pub fn pairings(
     alloc: Global,
-    sames: &Sames,
+    facts: &Facts,
     ranges: &Ranges,
     left: &[&FormRange],
 ) -> Result<Vec<Places>, AllocError>
-    ensures { IfOk result (λ out. (ks : List ℕ) → (Has ks out.items ↔ RangesSame (known_of sames.now) ks (ranges_seen ranges.now) (map range_behind left.now))) }
+    ensures { IfOk result (λ out. (ks : List ℕ) → (Has ks out.items ↔ RangesSame (known_of facts.now) ks (ranges_seen ranges.now) (map range_behind left.now))) }
 {
     let mut out = Vec::new(alloc);
     match ranges {
@@ -69,11 +69,11 @@ pub fn pairings(
             Ok(out)
         }
         Ranges::More(range, rest) => {
-            let all = partners(alloc, sames, range, left)?;
+            let all = partners(alloc, facts, range, left)?;
             for i in 0..all.len() {
                 let j = all[i];
                 let fewer = without(alloc, left, j)?;
-                let tails = pairings(alloc, sames, rest, fewer.as_slice())?;
+                let tails = pairings(alloc, facts, rest, fewer.as_slice())?;
                 push_first(alloc, j, tails.as_slice(), &mut out)?;
             }
             Ok(out)
@@ -85,25 +85,25 @@ pub fn pairings(
 #[cycle(same)]
 pub fn same_range(
     alloc: Global,
-    sames: &Sames,
+    facts: &Facts,
     range: &FormRange,
     other: &FormRange,
 ) -> Result<bool, AllocError>
-    ensures { IfOk result (λ yes. IsTrue yes ↔ RangeSame (known_of sames.now) (range_seen range.now) (range_seen other.now)) }
+    ensures { IfOk result (λ yes. IsTrue yes ↔ RangeSame (known_of facts.now) (range_seen range.now) (range_seen other.now)) }
 {
     match range {
         FormRange::Rel(r) => match other {
-            FormRange::Rel(s) => Ok(sames.same_leaf(*r, *s)),
+            FormRange::Rel(s) => Ok(facts.same_leaf(*r, *s)),
             FormRange::Distinct(_) => Ok(false),
         },
         FormRange::Distinct(f) => match other {
             FormRange::Rel(_) => Ok(false),
             FormRange::Distinct(g) => {
-                if !same_head(sames, f.head.as_slice(), g.head.as_slice()) {
+                if !same_head(facts, f.head.as_slice(), g.head.as_slice()) {
                     return Ok(false);
                 }
                 let left = term_refs(alloc, &g.terms)?;
-                let same = same_terms(alloc, sames, &f.terms, left.as_slice())?;
+                let same = same_terms(alloc, facts, &f.terms, left.as_slice())?;
                 Ok(same)
             }
         },
@@ -114,20 +114,20 @@ pub fn same_range(
 #[cycle(same)]
 pub fn same_conds(
     alloc: Global,
-    sames: &Sames,
+    facts: &Facts,
     ks: &[usize],
     conds: &Conds,
     left: &[&Cond],
 ) -> Result<bool, AllocError>
-    ensures { IfOk result (λ yes. IsTrue yes ↔ CondsSame (known_of sames.now) ks.now (conds_seen conds.now) (map cond_behind left.now)) }
+    ensures { IfOk result (λ yes. IsTrue yes ↔ CondsSame (known_of facts.now) ks.now (conds_seen conds.now) (map cond_behind left.now)) }
 {
     match conds {
         Conds::Empty => Ok(left.is_empty()),
         Conds::More(c, rest) => {
             for j in 0..left.len() {
-                if same_cond(alloc, sames, ks, c, left[j])? {
+                if same_cond(alloc, facts, ks, c, left[j])? {
                     let fewer = without(alloc, left, j)?;
-                    if same_conds(alloc, sames, ks, rest, fewer.as_slice())? {
+                    if same_conds(alloc, facts, ks, rest, fewer.as_slice())? {
                         return Ok(true);
                     }
                 }
@@ -141,43 +141,43 @@ pub fn same_conds(
 #[cycle(same)]
 pub fn same_cond(
     alloc: Global,
-    sames: &Sames,
+    facts: &Facts,
     ks: &[usize],
     c: &Cond,
     d: &Cond,
 ) -> Result<bool, AllocError>
-    ensures { IfOk result (λ yes. IsTrue yes ↔ CondSame (known_of sames.now) ks.now (cond_seen c.now) (cond_seen d.now)) }
+    ensures { IfOk result (λ yes. IsTrue yes ↔ CondSame (known_of facts.now) ks.now (cond_seen c.now) (cond_seen d.now)) }
 {
     match c {
         Cond::Pred(p, x) => match d {
-            Cond::Pred(q, y) => Ok(sames.same_pred(*p, *q) && same_expr(sames, ks, *x, *y)),
+            Cond::Pred(q, y) => Ok(facts.same_pred(*p, *q) && same_expr(facts, ks, *x, *y)),
             _ => Ok(false),
         },
         Cond::Join(x, y) => match d {
             Cond::Join(v, w) => Ok(
-                same_expr(sames, ks, *x, *v) && same_expr(sames, ks, *y, *w)
-                    || same_expr(sames, ks, *x, *w) && same_expr(sames, ks, *y, *v),
+                same_expr(facts, ks, *x, *v) && same_expr(facts, ks, *y, *w)
+                    || same_expr(facts, ks, *x, *w) && same_expr(facts, ks, *y, *v),
             ),
             _ => Ok(false),
         },
         Cond::In(x, f) => match d {
             Cond::In(y, g) => {
-                if !same_expr(sames, ks, *x, *y) {
+                if !same_expr(facts, ks, *x, *y) {
                     return Ok(false);
                 }
                 let left = term_refs(alloc, &g.terms)?;
-                let same = same_terms(alloc, sames, &f.terms, left.as_slice())?;
+                let same = same_terms(alloc, facts, &f.terms, left.as_slice())?;
                 Ok(same)
             }
             _ => Ok(false),
         },
         Cond::NotIn(x, f) => match d {
             Cond::NotIn(y, g) => {
-                if !same_expr(sames, ks, *x, *y) {
+                if !same_expr(facts, ks, *x, *y) {
                     return Ok(false);
                 }
                 let left = term_refs(alloc, &g.terms)?;
-                let same = same_terms(alloc, sames, &f.terms, left.as_slice())?;
+                let same = same_terms(alloc, facts, &f.terms, left.as_slice())?;
                 Ok(same)
             }
             _ => Ok(false),
@@ -189,19 +189,19 @@ pub fn same_cond(
 #[cycle(same)]
 pub fn same_term(
     alloc: Global,
-    sames: &Sames,
+    facts: &Facts,
     term: &Term,
     other: &Term,
 ) -> Result<bool, AllocError>
-    ensures { IfOk result (λ yes. IsTrue yes ↔ TermIs (known_of sames.now) (term_seen term.now) (term_seen other.now)) }
+    ensures { IfOk result (λ yes. IsTrue yes ↔ TermIs (known_of facts.now) (term_seen term.now) (term_seen other.now)) }
 {
     let ranges = range_refs(alloc, &other.ranges)?;
-    let ways = pairings(alloc, sames, &term.ranges, ranges.as_slice())?;
+    let ways = pairings(alloc, facts, &term.ranges, ranges.as_slice())?;
     let conds = cond_refs(alloc, &other.conds)?;
     for i in 0..ways.len() {
         let ks = ways[i].as_slice();
-        if same_pieces(sames, ks, term.pieces.as_slice(), other.pieces.as_slice()) {
-            if same_conds(alloc, sames, ks, &term.conds, conds.as_slice())? {
+        if same_pieces(facts, ks, term.pieces.as_slice(), other.pieces.as_slice()) {
+            if same_conds(alloc, facts, ks, &term.conds, conds.as_slice())? {
                 return Ok(true);
             }
         }
@@ -213,19 +213,19 @@ pub fn same_term(
 #[cycle(same)]
 pub fn same_terms(
     alloc: Global,
-    sames: &Sames,
+    facts: &Facts,
     terms: &Terms,
     left: &[&Term],
 ) -> Result<bool, AllocError>
-    ensures { IfOk result (λ yes. IsTrue yes ↔ TermsSame (known_of sames.now) (terms_seen terms.now) (terms_from (map term_behind left.now))) }
+    ensures { IfOk result (λ yes. IsTrue yes ↔ TermsSame (known_of facts.now) (terms_seen terms.now) (terms_from (map term_behind left.now))) }
 {
     match terms {
         Terms::Empty => Ok(left.is_empty()),
         Terms::More(term, rest) => {
             for k in 0..left.len() {
-                if same_term(alloc, sames, term, left[k])? {
+                if same_term(alloc, facts, term, left[k])? {
                     let fewer = without(alloc, left, k)?;
-                    if same_terms(alloc, sames, rest, fewer.as_slice())? {
+                    if same_terms(alloc, facts, rest, fewer.as_slice())? {
                         return Ok(true);
                     }
                 }

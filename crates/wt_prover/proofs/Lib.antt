@@ -6,6 +6,4 @@ pub mod DropLaws
 pub mod StepTowers
 pub mod Proves
 pub mod SideForms
-pub mod ClassLaws
-pub mod Closures
 pub mod PairKnown

@@ -20,8 +20,9 @@ use Rattle.wt_form.specs.Known.{Known}
 use Rattle.wt_form.specs.FormOf.{form_of}
 use Rattle.wt_form.specs.Provable.{ProvableForms}
 use Rattle.wt_form.specs.Under.{Under, Holds, Refers, KeptBelow, SameLeaf, SameList, SamePred, kept_below, Provable}
-use Rattle.wt_prover.specs.declared.sames.Sames.{Sames}
-use Rattle.wt_prover.specs.Sames.{same_class, known_with}
+use Rattle.wt_facts.specs.declared.sames.Sames.{Sames}
+use Rattle.wt_facts.specs.Sames.{same_class}
+use Rattle.wt_prover.specs.Sames.{known_with}
 use Rattle.wt_prover.specs.Towers.{Levels, tower_form}
 use Rattle.wt_prover.specs.SideTowers.{IsTower, tower_of}
 use Rattle.wt_prover.proofs.SideForms.{side_form}

@@ -10,7 +10,7 @@ use Rattle.wt_form.specs.Trees.{Terms, Form}
 use Rattle.wt_form.specs.Known.{Known}
 use Rattle.wt_form.specs.Congruent.{TermsSame}
 use Rattle.wt_form.specs.Provable.{Chain, ProvableForms}
-use Rattle.wt_prover.specs.declared.sames.Sames.{Sames}
+use Rattle.wt_facts.specs.declared.sames.Sames.{Sames}
 use Rattle.wt_prover.specs.declared.tower.Tower.{Tower}
 use Rattle.wt_prover.specs.Sames.{known_with, known_of}
 use Rattle.wt_prover.specs.Towers.{Levels, levels_of, terms_of, leaf_of, whole, tower_form, test_same, towers_same}

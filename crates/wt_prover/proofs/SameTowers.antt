@@ -3,7 +3,7 @@ use Rattle.std.proofs.Common.{ℕ, zero, suc, ◌≡◌, ◌<◌, true, List, []
 use Rattle.std.proofs.lemmas.Bool.{false≢true, and_parts, and_from}
 use Rattle.wt_bag.specs.Choices.{At, drop_at, PairsBy}
 use Rattle.wt_bag.proofs.PairsByLaws.{IsEquivalent, both_alike_pairs}
-use Rattle.wt_prover.proofs.ClassLaws.{class_law}
+use Rattle.wt_facts.proofs.ClassLaws.{class_law}
 use Rattle.wt_symbol.specs.declared.head.PartCols.TheVariants.{Whole}
 use Rattle.wt_form.specs.declared.form.Expr.TheVariants.{Of}
 use Rattle.wt_form.specs.Trees.{Terms, no_ranges, range_then, FormRange, Rel, distinct_of}
@@ -11,8 +11,9 @@ use Rattle.wt_form.specs.Parts.{one_term, conds_list, ranges_list, terms_count, 
 use Rattle.wt_form.specs.Known.{Known, heads_same}
 use Rattle.wt_form.specs.Congruent.{TermsSame, RangesSame, RangeSame, CondsSame, CondSame}
 use Rattle.wt_prover.specs.declared.tower.Test.{Test}
-use Rattle.wt_prover.specs.declared.sames.Sames.{Sames}
-use Rattle.wt_prover.specs.Sames.{known_of, same_class}
+use Rattle.wt_facts.specs.declared.sames.Sames.{Sames}
+use Rattle.wt_facts.specs.Sames.{same_class}
+use Rattle.wt_prover.specs.Sames.{known_of}
 use Rattle.wt_prover.specs.Towers.{Levels, table, over, terms_of, leaf_of, whole, test_cond, tests_conds, test_same, tests_same, towers_same}
 
 pub test_same_law : (sames : Sames) → IsEquivalent (test_same (known_of sames))

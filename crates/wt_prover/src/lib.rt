@@ -5,14 +5,12 @@
 #![tactic(auto)]
 
 mod pair;
-mod sames;
 mod search;
 mod side;
 mod steps;
 mod tower;
 
 pub use pair::{prove, prove_with};
-pub use sames::Sames;
 pub use search::prove_towers;
 pub use side::{is_tower, tower_of_side};
 pub use tower::{Test, Tests, Tower};

@@ -6,11 +6,11 @@ ghost use Rattle.wt_constraint.specs.Atoms.{atoms_of_pair};
 ghost use Rattle.wt_form.specs.Under.{Provable};
 ghost use Rattle.wt_prover.specs.SideTowers.{IsTower};
 
-use crate::sames::Sames;
 use crate::search::prove_towers;
 use crate::side::tower_of_side;
 use std::alloc::{AllocError, Global};
 use wt_constraint::{AtomSet, Atoms, atoms_of};
+use wt_facts::Sames;
 use wt_symbol::Pair;
 
 /// Whether a pair with these atoms is provable under the set by chains of at most so many steps.

@@ -6,9 +6,9 @@ ghost use Rattle.wt_prover.specs.Sames.{known_of, known_with};
 ghost use Rattle.wt_prover.specs.Towers.{levels_of, towers_same, tower_form};
 ghost use Rattle.wt_prover.specs.TowerSteps.{reached};
 
-use crate::sames::Sames;
 use crate::tower::Tower;
 use std::alloc::{AllocError, Global};
+use wt_facts::Sames;
 
 /// Adds the end of every chain of at most so many steps from the tower.
 #[cycle(reach)]

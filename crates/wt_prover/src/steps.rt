@@ -6,9 +6,9 @@ ghost use Rattle.wt_prover.specs.Sames.{known_of};
 ghost use Rattle.wt_prover.specs.Towers.{levels_of, table, over, test_same};
 ghost use Rattle.wt_prover.specs.TowerSteps.{drops, open_under, is_over, tower_steps};
 
-use crate::sames::Sames;
 use crate::tower::{Test, Tests, Tower};
 use std::alloc::{AllocError, Global};
+use wt_facts::Sames;
 
 /// Whether one of the tests is the same as this one.
 fn is_repeated(sames: &Sames, before: &[Test], test: Test) -> bool

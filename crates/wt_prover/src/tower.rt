@@ -5,8 +5,8 @@ ghost use Rattle.wt_bag.specs.Bags.{count_of};
 ghost use Rattle.wt_prover.specs.Sames.{known_of};
 ghost use Rattle.wt_prover.specs.Towers.{levels_of, test_same, counts_agree, tests_same, towers_same};
 
-use crate::sames::Sames;
 use std::alloc::{AllocError, Global};
+use wt_facts::Sames;
 use wt_value::Seq;
 
 /// A predicate on a list of columns of a row.

@@ -6,7 +6,7 @@ use Rattle.wt_bag.proofs.PairsByLaws.{IsEquivalent}
 use Rattle.wt_constraint.specs.declared.atom.Atom.{Atom}
 use Rattle.wt_constraint.specs.declared.atom.Kind.{Kind}
 use Rattle.wt_constraint.specs.Atoms.{equal}
-use Rattle.wt_congruent.specs.Sames.{same_class, Merged, Linked}
+use Rattle.wt_facts.specs.Sames.{same_class, Merged, Linked}
 
 -- the classes of two symbols are given and equal
 pub record Inside (classes : List ℕ) (i j : ℕ) : Type 0 where

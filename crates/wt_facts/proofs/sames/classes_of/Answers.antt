@@ -1,7 +1,7 @@
 use Rattle.std.proofs.Common.{◌≡◌, length, sym, ap, ◌∙◌, arith, subst}
 use Rattle.wt_constraint.specs.declared.atom.Atom.TheVariants.{RelEq}
-use Rattle.wt_prover.proofs.Closures.{Classes, classes_none, classes_more, classes_all, at_place}
-use Rattle.wt_prover.proofs.sames.classes_of.Goals as goal
+use Rattle.wt_facts.proofs.Closures.{Classes, classes_none, classes_more, classes_all, at_place}
+use Rattle.wt_facts.proofs.sames.classes_of.Goals as goal
 
 pub loop-k-init : goal.loop-k-init
 loop-k-init c = classes_none c.args.kind c.args.atoms.now c.args.set c.in_ok-classes.classes.items c.in_ok-classes.ensures.size c.in_ok-classes.ensures.own

@@ -1,30 +1,12 @@
 -- Symbols in classes of the same ones.
-use Rattle.std.specs.Prelude.{ℕ, ◌<◌, ◌≡◌, ◌⊎◌, Bool, true, false, ◌&&◌, cond, List, length, nat_eq, nat_lt, slice_index_or}
+use Rattle.std.specs.Prelude.{ℕ, ◌<◌, ◌≡◌, ◌⊎◌, Bool, true, ◌&&◌, cond, List, length, nat_eq, nat_lt, slice_index_or}
 use Rattle.wt_constraint.specs.declared.atom.Atom.{Atom}
 use Rattle.wt_constraint.specs.declared.atom.Kind.{Kind}
 use Rattle.wt_constraint.specs.Atoms.{equal}
-use Rattle.wt_form.specs.Known.{Known}
-use Rattle.wt_congruent.specs.declared.sames.Sames.{Sames}
 
 -- whether two symbols are of one class; one past the end of the list is of a class of its own
 abbrev pub same_class : List ℕ → ℕ → ℕ → Bool
 same_class classes i j = cond (nat_lt i (length classes) && nat_lt j (length classes)) (nat_eq (slice_index_or classes i 0) (slice_index_or classes j 0)) (nat_eq i j)
-
--- what is known where symbols of one class are the same, nothing is known to be unique or not NULL,
--- and lists are within one another as the last says
-abbrev pub known_with : Sames → (ℕ → ℕ → Bool) → Known
-known_with sames within = record {
-  rel = same_class sames.leaves;
-  attr = same_class sames.lists;
-  pred = same_class sames.preds;
-  unique = λ r a. false;
-  not_null = λ r a. false;
-  refs = λ r a s b. false;
-  within = within;
-}
-
-abbrev pub known_of : Sames → Known
-known_of sames = known_with sames (λ a b. false)
 
 -- the classes of two symbols are made one, and no other
 pub record Merged (old new : List ℕ) (x y : ℕ) : Type 0 where

@@ -1,6 +1,6 @@
 use Rattle.std.proofs.Common.{◌≡◌, ◌<◌, ◌≤◌, ℕ, length, cond, nat_eq}
 use Rattle.std.specs.Prelude.{slice_index_or}
-use Rattle.wt_congruent.proofs.sames.merge.Given as goal
+use Rattle.wt_facts.proofs.sames.merge.Given as goal
 
 -- the first i symbols are relabelled, and the others are as they were
 abbrev pub invariant-loop-i : goal.invariant-loop-i

@@ -3,7 +3,7 @@ ghost use Rattle.std.specs.Prelude.{◌≡◌, ◌≢◌, ◌↔◌, ◌<◌, �
 ghost use Rattle.wt_constraint.specs.Atoms.{equal};
 ghost use Rattle.wt_constraint.specs.Sameness.{AreSame};
 ghost use Rattle.wt_constraint.specs.declared.atom.Kind.TheVariants.{Leaves, Lists, Preds};
-ghost use Rattle.wt_prover.specs.Sames.{same_class, known_of, Merged, Linked};
+ghost use Rattle.wt_facts.specs.Sames.{same_class, Merged, Linked};
 
 use std::alloc::{AllocError, Global};
 use wt_constraint::{Atom, AtomSet, Atoms, Kind, has};
@@ -35,21 +35,21 @@ fn are_same(classes: &Seq<u8>, i: u8, j: u8) -> bool
 impl Sames {
     /// Whether two leaves are the same.
     pub fn same_leaf(&self, r: u8, s: u8) -> bool
-        ensures { result ≡ (known_of self.now).rel r s }
+        ensures { result ≡ same_class self.now.leaves r s }
     {
         are_same(&self.leaves, r, s)
     }
 
     /// Whether two lists are the same.
     pub fn same_list(&self, a: u8, b: u8) -> bool
-        ensures { result ≡ (known_of self.now).attr a b }
+        ensures { result ≡ same_class self.now.lists a b }
     {
         are_same(&self.lists, a, b)
     }
 
     /// Whether two predicates are the same.
     pub fn same_pred(&self, p: u8, q: u8) -> bool
-        ensures { result ≡ (known_of self.now).pred p q }
+        ensures { result ≡ same_class self.now.preds p q }
     {
         are_same(&self.preds, p, q)
     }

@@ -10,8 +10,8 @@ use Rattle.wt_constraint.specs.declared.set.AtomSet.{AtomSet}
 use Rattle.wt_constraint.specs.Atoms.{equal}
 use Rattle.wt_constraint.specs.Sets.{HasAtom}
 use Rattle.wt_constraint.specs.Sameness.{IsLink, AreSame, reflexive, linked, symmetric, transitive}
-use Rattle.wt_congruent.specs.Sames.{same_class, Linked}
-use Rattle.wt_congruent.proofs.ClassLaws.{class_law, class_tells, Inside}
+use Rattle.wt_facts.specs.Sames.{same_class, Linked}
+use Rattle.wt_facts.proofs.ClassLaws.{class_law, class_tells, Inside}
 
 -- the classes after the first k atoms
 pub record Classes (kind : Kind) (atoms : List Atom) (set : AtomSet) (k : ℕ) (classes : List ℕ) : Type 0 where
@@ -62,7 +62,7 @@ classes_more kind atoms set k old new asked atom has at l before = record {
     links n x y h (inr (inl before_k)) lt = l.kept x y (before.links n x y before_k h)
     links n x y h (inr (inr after_k)) lt = let bad : ⊥ = omega arith in absurd bad
 
-get_within : {X : Type 0} (xs : List X) (n : ℕ) (x : X) → slice_get xs n ≡ Some x → n < length xs
+pub get_within : {X : Type 0} (xs : List X) (n : ℕ) (x : X) → slice_get xs n ≡ Some x → n < length xs
 get_within [] n x e = cc
 get_within (y ∷ ys) zero x e = omega arith
 get_within (y ∷ ys) (suc n) x e = omega (arith, get_within ys n x e)

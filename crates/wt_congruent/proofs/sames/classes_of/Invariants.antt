@@ -1,5 +1,0 @@
-use Rattle.wt_congruent.proofs.Closures.{Classes}
-use Rattle.wt_congruent.proofs.sames.classes_of.Given as goal
-
-abbrev pub invariant-loop-k : goal.invariant-loop-k
-invariant-loop-k l = Classes l.kind l.atoms l.set l.k l.classes.items

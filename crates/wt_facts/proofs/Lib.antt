@@ -1,0 +1,3 @@
+pub mod ClassLaws
+pub mod Closures
+pub mod FactLaws

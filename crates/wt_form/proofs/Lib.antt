@@ -10,3 +10,4 @@ pub mod Sizes
 pub mod Rewrites
 pub mod Weighing
 pub mod SmallSides
+pub mod WorkedRows

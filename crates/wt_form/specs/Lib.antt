@@ -19,3 +19,4 @@ pub mod Relaxed
 pub mod Shrunk
 pub mod Growing
 pub mod Closed
+pub mod Worked

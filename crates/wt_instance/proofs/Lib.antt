@@ -2,3 +2,4 @@ pub mod NamedRows
 mod Sides
 pub mod Columns
 mod Meetings
+pub mod SideBags

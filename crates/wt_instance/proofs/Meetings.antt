@@ -4,7 +4,6 @@ use Rattle.std.specs.Prelude.{slice_get}
 use Rattle.std.proofs.lemmas.Bool.{cases_lt}
 use Rattle.std.proofs.lemmas.Option.{slice_get-get_or, slice_get_within}
 use Rattle.wt_bag.specs.Bags.{among, Each}
-use Rattle.wt_bag.specs.Choices.{Has}
 use Rattle.wt_bag.proofs.HasLaws.{list_any_has, has_list_any, each_from_has}
 use Rattle.wt_bag.proofs.UniqueLists.{each_has}
 use Rattle.wt_value.specs.Values.{Tuple, pick, row_same, row_matches}

@@ -1,3 +1,4 @@
 pub mod Instances
 pub mod Rows
 pub mod Meeting
+pub mod SideBags

@@ -1,11 +1,10 @@
 //! Instances of a pair.
-ghost use Rattle.std.specs.Prelude.{◌≡◌, ◌≢◌, ◌↔◌, ◌<◌, ℕ, List, [], length, slice_index_or, IsTrue, IfOk};
+ghost use Rattle.std.specs.Prelude.{◌≡◌, ◌≢◌, ◌↔◌, ◌<◌, ℕ, [], length, slice_index_or, IsTrue, IfOk};
 ghost use Rattle.wt_bag.specs.Bags.{among, Each};
-ghost use Rattle.wt_value.specs.Values.{row_same, distinct_rows};
-ghost use Rattle.wt_symbol.specs.Sides.{SideTree, dedup, PairTree, pair_of};
+ghost use Rattle.wt_value.specs.Values.{row_same};
+ghost use Rattle.wt_symbol.specs.Sides.{pair_of};
 ghost use Rattle.wt_symbol.specs.Heads as heads;
 ghost use Rattle.wt_instance.specs.Instances as spec;
-ghost use Rattle.wt_instance.specs.Rows as rows;
 
 use std::alloc::{AllocError, Global};
 use wt_symbol::{Anchors, Pair};
@@ -56,21 +55,21 @@ fn rows_at(lists: &RowsList, place: usize) -> &[Row]
 
 impl Instance {
     /// How many columns a leaf has.
-    pub(crate) fn width(&self, leaf: u8) -> u32
+    pub fn width(&self, leaf: u8) -> u32
         ensures { result ≡ spec.width self.now leaf }
     {
         width_at(&self.widths, leaf as usize)
     }
 
     /// The rows of a leaf.
-    pub(crate) fn table(&self, leaf: u8) -> &[Row]
+    pub fn table(&self, leaf: u8) -> &[Row]
         ensures { result.now ≡ spec.table self.now leaf }
     {
         rows_at(&self.tables, leaf as usize)
     }
 
     /// The column numbers of a list.
-    pub(crate) fn numbers(&self, list: u8) -> &[u32]
+    pub fn numbers(&self, list: u8) -> &[u32]
         ensures { result.now ≡ spec.numbers self.now list }
     {
         let place = list as usize;
@@ -90,7 +89,7 @@ impl Instance {
     }
 
     /// Whether a predicate is True on a row.
-    pub(crate) fn is_true(&self, pred: u8, row: &Row) -> bool
+    pub fn is_true(&self, pred: u8, row: &Row) -> bool
         ensures { result ≡ spec.is_true self.now pred row.now }
     {
         is_among(row, self.trues_of(pred))
@@ -182,13 +181,3 @@ pub fn is_instance(alloc: Global, pair: &Pair, instance: &Instance) -> Result<bo
             && are_filled(instance.lists.as_slice()),
     )
 }
-
-/// A law: on an instance of a pair each row of a side has the columns of the side.
-pub fn rows_have_columns()
-    ensures { (p : PairTree) (I : Instance) → spec.IsInstance p I → (s : SideTree) (A : List ℕ) → rows.HaveColumns s A I }
-{}
-
-/// A law: on an instance of a pair the rows of a Dedup are the distinct rows of its operand.
-pub fn dedup_rows_are_distinct_rows()
-    ensures { (p : PairTree) (I : Instance) → spec.IsInstance p I → (s : SideTree) (A : List ℕ) → rows.rows_of (dedup s) A I ≡ distinct_rows (rows.rows_of s A I) }
-{}

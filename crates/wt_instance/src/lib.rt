@@ -3,15 +3,17 @@
 
 mod evaluate;
 mod instance;
+mod laws;
 mod meeting;
 mod named;
 mod operator;
 mod picked;
 
 pub use evaluate::bag;
-pub use instance::{
-    ColsList, Instance, RowsList, Widths, dedup_rows_are_distinct_rows, is_instance,
-    rows_have_columns,
+pub use instance::{ColsList, Instance, RowsList, Widths, is_instance};
+pub use laws::{
+    dedup_rows_are_distinct_rows, left_join_adds_unmatched_rows, rows_have_columns,
+    sides_depend_on_tables_as_bags,
 };
 pub use meeting::meets;
 pub use std::alloc::AllocError as WantOfMemory;

@@ -1,5 +1,5 @@
 -- The rows of a side are those of its form.
-use Rattle.std.proofs.Common.{ℕ, zero, suc, ◌+◌, ◌<◌, Bool, true, false, ◌&&◌, ◌||◌, not, cond, List, [], ◌∷◌, ◌++◌, map, filter, ◌≡◌, refl, sym, ap, ◌∙◌, subst, arith, length}
+use Rattle.std.proofs.Common.{ℕ, zero, suc, ◌+◌, ◌<◌, Bool, ◌&&◌, ◌||◌, not, List, [], ◌∷◌, ◌++◌, map, filter, ◌≡◌, refl, sym, ap, ◌∙◌, subst, arith, length}
 use Rattle.std.specs.List.{list_any}
 use Rattle.std.proofs.lemmas.List.{append-nil, append_assoc, map-append, length-map}
 use Rattle.wt_bag.specs.Bags.{total, only, Each}
@@ -24,7 +24,9 @@ use Rattle.wt_form.specs.Closed.{IsWithin}
 use Rattle.wt_instance.specs.declared.instance.Instance.{Instance}
 use Rattle.wt_instance.specs.Instances.{width, table, numbers, IsWide}
 use Rattle.wt_instance.specs.Rows as rows
-use Rattle.wt_instance.specs.Rows.{Named, cell, values, values_at, cells_at, named, leaf_columns, columns_of, joined, or_nulls, named_same, named_rows}
+use Rattle.wt_instance.specs.Rows.{Named, cell, values, values_at, cells_at, named, leaf_columns, columns_of, named_same, named_rows}
+use Rattle.wt_instance.specs.SideBags.{matching}
+use Rattle.wt_instance.proofs.SideBags.{list_any-map}
 use Rattle.wt_rows.specs.FormRows.{Piece, Env, FormRow, values_in, numbered, beside, label, part_values, nulls, values_of, row_of, put_together, terms_rows, ranges_rows, range_rows, conds_hold, cond_holds}
 use Rattle.wt_rows.specs.Fits.{ExprFits, RowFits}
 use Rattle.wt_rows.proofs.Sums.{term_total, conds_hold-append, ranges_rows-append, length-ranges_rows}
@@ -143,16 +145,12 @@ module _ (I : Instance) (A : List ℕ) (wide : (r : ℕ) → IsWide I r) where
           total_ext _ _ (choices (ranges_rows rs' I)) (λ e'. one e e' (ranges_count rs) l (each_implies (ExprFits I rs) (IsWithin (ranges_count rs)) ps (expr_within I rs) t.pieces) (conds_exprs I rs (IsWithin (ranges_count rs)) (expr_within I rs) cs t.conds) wx)
           ∙ sym (only-total (conds_hold cs I e) _ (choices (ranges_rows rs' I)))
 
-  -- whether the values of two lists match in a left and a right row
-  abbrev pub matching : ℕ → ℕ → Named → Named → Bool
-  matching a b v w = row_matches (values_at A I a v) (values_at A I b w)
-
   pub law_inner : (hs gs : List Part) (ss ts : Terms) (a b : ℕ) (old old' : List Named) → ListStands I hs (anchor A a) a → ListStands I gs (anchor A b) b → EachTerm (TermStands I hs) ss → EachTerm (TermStands I gs) ts →
       ((rs : Ranges) (cs : Conds) (ps : List Expr) → TermStands I hs rs cs ps → IsWithin (ranges_count rs) (list_of hs A a ps)) → ((g : Named → ℕ) → total g old ≡ named_total g hs ss) → ((g : Named → ℕ) → total g old' ≡ named_total g gs ts) →
-      (g : Named → ℕ) → total (λ v. total (λ w. only (matching a b v w) (g (v ++ w))) old') old ≡ named_total g (hs ++ gs) (join_terms (list_of hs A a) (list_of gs A b) ss ts)
+      (g : Named → ℕ) → total (λ v. total (λ w. only (matching A I a b v w) (g (v ++ w))) old') old ≡ named_total g (hs ++ gs) (join_terms (list_of hs A a) (list_of gs A b) ss ts)
   law_inner hs gs ss ts a b old old' st st' stands stands' wl ih ih' g =
-      total_ext _ _ old (λ v. ih' (λ w. only (matching a b v w) (g (v ++ w))))
-      ∙ ih (λ v. named_total (λ w. only (matching a b v w) (g (v ++ w))) gs ts)
+      total_ext _ _ old (λ v. ih' (λ w. only (matching A I a b v w) (g (v ++ w))))
+      ∙ ih (λ v. named_total (λ w. only (matching A I a b v w) (g (v ++ w))) gs ts)
       ∙ terms_total_by (TermStands I hs) _ _ ss (λ rs cs ps t. at_left rs cs ps t) stands
       ∙ sym (terms_total-each_term W (λ rs cs ps. each_term (join_term (list_of hs A a) (list_of gs A b) rs cs ps) ts) ss)
     where
@@ -160,7 +158,7 @@ module _ (I : Instance) (A : List ℕ) (wide : (r : ℕ) → IsWide I r) where
       W = term_total I (λ p. g (named_row I (hs ++ gs) p))
 
       T : FormRow → Ranges → Conds → List Expr → ℕ
-      T p = term_total I (λ q. only (matching a b (named_row I hs p) (named_row I gs q)) (g (named_row I hs p ++ named_row I gs q)))
+      T p = term_total I (λ q. only (matching A I a b (named_row I hs p) (named_row I gs q)) (g (named_row I hs p ++ named_row I gs q)))
 
       at_both : (rs : Ranges) (cs : Conds) (ps : List Expr) → TermStands I hs rs cs ps → (rs' : Ranges) (cs' : Conds) (ps' : List Expr) → TermStands I gs rs' cs' ps' →
           total (λ e. only (conds_hold cs I e) (T (row_of I ps e) rs' cs' ps')) (choices (ranges_rows rs I)) ≡ terms_total W (join_term (list_of hs A a) (list_of gs A b) rs cs ps rs' cs' ps')
@@ -173,15 +171,11 @@ module _ (I : Instance) (A : List ℕ) (wide : (r : ℕ) → IsWide I r) where
           ∙ sym (one_total W (ranges_append rs rs') (with_cond (conds_append cs (conds_up (ranges_count rs) cs')) (Join (list_of hs A a ps) (expr_up (ranges_count rs) (list_of gs A b ps')))) (ps ++ map (expr_up (ranges_count rs)) ps'))
 
       at_left : (rs : Ranges) (cs : Conds) (ps : List Expr) → TermStands I hs rs cs ps →
-          term_total I (λ p. named_total (λ w. only (matching a b (named_row I hs p) w) (g (named_row I hs p ++ w))) gs ts) rs cs ps ≡ terms_total W (each_term (join_term (list_of hs A a) (list_of gs A b) rs cs ps) ts)
+          term_total I (λ p. named_total (λ w. only (matching A I a b (named_row I hs p) w) (g (named_row I hs p ++ w))) gs ts) rs cs ps ≡ terms_total W (each_term (join_term (list_of hs A a) (list_of gs A b) rs cs ps) ts)
       at_left rs cs ps t =
           swap_terms (conds_hold cs I) (λ e. T (row_of I ps e)) ts (choices (ranges_rows rs I))
           ∙ terms_total_by (TermStands I gs) _ _ ts (λ rs' cs' ps' t'. at_both rs cs ps t rs' cs' ps' t') stands'
           ∙ sym (terms_total-each_term W (join_term (list_of hs A a) (list_of gs A b) rs cs ps) ts)
-
-  pub list_any-map : {X Y : Type 0} (p : Y → Bool) (f : X → Y) (xs : List X) → list_any p (map f xs) ≡ list_any (λ x. p (f x)) xs
-  list_any-map p f [] = refl
-  list_any-map p f (x ∷ xs) = ap (λ b. p (f x) || b) (list_any-map p f xs)
 
   pub values_put : (hs : List Part) (row : FormRow) → RowReads I hs row → values (named_row I hs row) ≡ put_together row
   values_put [] [] f = refl
@@ -209,22 +203,6 @@ module _ (I : Instance) (A : List ℕ) (wide : (r : ℕ) → IsWide I r) where
       ∙ ap positive (ih (λ w. only (p (values w)) 1) ∙ sym (total-terms I (λ q. only (p (values (named_row I hs q))) 1) ts)
       ∙ total_each _ _ (terms_rows ts I) (each_implies (RowFits I hs) _ (terms_rows ts I) (λ row f. ap (λ vs. only (p vs) 1) (values_put hs row (row_reads I hs row f))) fits))
       ∙ sym (list_any-total (λ q. p (put_together q)) (terms_rows ts I))
-
-  -- a left row's rows: those that are joined, or itself with NULLs
-  pub or_nulls-total : (g : Named → ℕ) (v : Named) (t : SideTree) (ws : List Named) → total g (or_nulls v (columns_of t A I) ws) ≡ total g ws + only (not (list_any (λ w. true) ws)) (g (v ++ rows.nulls (columns_of t A I)))
-  or_nulls-total g v t [] = omega arith
-  or_nulls-total g v t (w ∷ ws) = omega arith
-
-  pub joined-total : (g : Named → ℕ) (a b : ℕ) (v : Named) (ws : List Named) → total g (joined A I a b v ws) ≡ total (λ w. only (matching a b v w) (g (v ++ w))) ws
-  joined-total g a b v ws = total-map g (λ w. v ++ w) (filter (matching a b v) ws) ∙ total-filter (λ w. g (v ++ w)) (matching a b v) ws
-
-  pub list_any-filter : {X : Type 0} (p : X → Bool) (xs : List X) → list_any (λ x. true) (filter p xs) ≡ list_any p xs
-  list_any-filter p [] = refl
-  list_any-filter p (x ∷ xs) = here (p x) (list_any-filter p xs)
-    where
-      here : (b : Bool) → list_any (λ y. true) (filter p xs) ≡ list_any p xs → list_any (λ y. true) (cond b (x ∷ filter p xs) (filter p xs)) ≡ (b || list_any p xs)
-      here true e = refl
-      here false e = e
 
   -- a row of NULLs under the names of a head
   nulls_numbered : (r k n : ℕ) → named_piece r (numbered k (nulls n)) ≡ rows.nulls (leaf_columns r k n)
@@ -262,12 +240,12 @@ module _ (I : Instance) (A : List ℕ) (wide : (r : ℕ) → IsWide I r) where
 
   pub law_left : (hs : List Part) (t : SideTree) (ss : Terms) (a b : ℕ) (old old' : List Named) → ListStands I hs (anchor A a) a → ListStands I (head_of t A) (anchor A b) b → b < length I.lists →
       EachTerm (TermStands I hs) ss → EachTerm (TermStands I (head_of t A)) (side_terms t A) → ((g : Named → ℕ) → total g old ≡ named_total g hs ss) → ((g : Named → ℕ) → total g old' ≡ named_total g (head_of t A) (side_terms t A)) →
-      (g : Named → ℕ) → total (λ v. only (not (list_any (λ w. matching a b v w) old')) (g (v ++ rows.nulls (columns_of t A I)))) old
+      (g : Named → ℕ) → total (λ v. only (not (list_any (λ w. matching A I a b v w) old')) (g (v ++ rows.nulls (columns_of t A I)))) old
       ≡ named_total g (hs ++ head_of t A) (each_term (null_term (λ ps. not_in (list_of hs A a ps) (list_part A b ∷ []) (each_term (proj_term (list_of (head_of t A) A b)) (side_terms t A))) (head_of t A)) ss)
   law_left hs t ss a b old old' st st' exists stands stands' ih ih' g =
-      ih (λ v. only (not (list_any (λ w. matching a b v w) old')) (g (v ++ rows.nulls (columns_of t A I))))
+      ih (λ v. only (not (list_any (λ w. matching A I a b v w) old')) (g (v ++ rows.nulls (columns_of t A I))))
       ∙ terms_total_by (TermStands I hs) _ _ ss (λ rs cs ps s.
-      term_each rs cs (with_cond cs (c ps)) ps (ps ++ null_pieces gs) (λ q. only (not (list_any (λ w. matching a b (named_row I hs q) w) old')) (g (named_row I hs q ++ rows.nulls (columns_of t A I))))
+      term_each rs cs (with_cond cs (c ps)) ps (ps ++ null_pieces gs) (λ q. only (not (list_any (λ w. matching A I a b (named_row I hs q) w) old')) (g (named_row I hs q ++ rows.nulls (columns_of t A I))))
       (λ q. g (named_row I (hs ++ gs) q)) (λ e ch. at rs cs ps s e ch)
       ∙ sym (one_total W rs (with_cond cs (c ps)) (ps ++ null_pieces gs))) stands
       ∙ sym (terms_total-each_term W (null_term c gs) ss)
@@ -284,7 +262,7 @@ module _ (I : Instance) (A : List ℕ) (wide : (r : ℕ) → IsWide I r) where
       W : Ranges → Conds → List Expr → ℕ
       W = term_total I (λ p. g (named_row I (hs ++ gs) p))
 
-      says : (rs : Ranges) (cs : Conds) (ps : List Expr) → TermStands I hs rs cs ps → (e : Env) → Chosen I rs e → not (list_any (λ w. matching a b (named_row I hs (row_of I ps e)) w) old') ≡ cond_holds (c ps) I e
+      says : (rs : Ranges) (cs : Conds) (ps : List Expr) → TermStands I hs rs cs ps → (e : Env) → Chosen I rs e → not (list_any (λ w. matching A I a b (named_row I hs (row_of I ps e)) w) old') ≡ cond_holds (c ps) I e
       says rs cs ps s e ch = ap not (
           ap (λ vs. list_any (λ w. row_matches vs (values_at A I b w)) old') (column_values hs rs cs ps a st s e ch)
           ∙ list_cells
@@ -307,14 +285,14 @@ module _ (I : Instance) (A : List ℕ) (wide : (r : ℕ) → IsWide I r) where
           list_cells = any_ext _ _ (λ w. ap (row_matches (values_of I e (list_of hs A a ps))) (cells_values w)) old'
 
       at : (rs : Ranges) (cs : Conds) (ps : List Expr) → TermStands I hs rs cs ps → (e : Env) → Chosen I rs e →
-          only (conds_hold cs I e) (only (not (list_any (λ w. matching a b (named_row I hs (row_of I ps e)) w) old')) (g (named_row I hs (row_of I ps e) ++ rows.nulls (columns_of t A I))))
+          only (conds_hold cs I e) (only (not (list_any (λ w. matching A I a b (named_row I hs (row_of I ps e)) w) old')) (g (named_row I hs (row_of I ps e) ++ rows.nulls (columns_of t A I))))
           ≡ only (conds_hold (with_cond cs (c ps)) I e) (g (named_row I (hs ++ gs) (row_of I (ps ++ null_pieces gs) e)))
       at rs cs ps s e ch =
           let row : named_row I (hs ++ gs) (row_of I (ps ++ null_pieces gs) e) ≡ named_row I hs (row_of I ps e) ++ rows.nulls (columns_of t A I) =
           ap (named_row I (hs ++ gs)) (row_of-append I e ps (null_pieces gs)) ∙ named_row-append hs gs ps (row_of I (null_pieces gs) e) e s.cols ∙ ap (λ w. named_row I hs (row_of I ps e) ++ w) (sym (null_columns t e)) in
           sym (ap (λ v. only (conds_hold (with_cond cs (c ps)) I e) (g v)) row
           ∙ ap (λ b. only b (g (named_row I hs (row_of I ps e) ++ rows.nulls (columns_of t A I)))) (conds_hold-with_cond I e cs (c ps) ∙ ap (λ b. conds_hold cs I e && b) (sym (says rs cs ps s e ch)))
-          ∙ only-and (conds_hold cs I e) (not (list_any (λ w. matching a b (named_row I hs (row_of I ps e)) w) old')) (g (named_row I hs (row_of I ps e) ++ rows.nulls (columns_of t A I))))
+          ∙ only-and (conds_hold cs I e) (not (list_any (λ w. matching A I a b (named_row I hs (row_of I ps e)) w) old')) (g (named_row I hs (row_of I ps e) ++ rows.nulls (columns_of t A I))))
 
   plus_zero : (n : ℕ) → n ≡ n + 0
   plus_zero n = omega arith

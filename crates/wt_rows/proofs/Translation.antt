@@ -1,5 +1,5 @@
 -- The law of translation: the rows of a side and of its form are one bag.
-use Rattle.std.proofs.Common.{ℕ, suc, ◌+◌, ◌<◌, Bool, true, false, not, List, [], ◌∷◌, ◌++◌, map, filter, ◌≡◌, refl, sym, ap, ◌∙◌, arith, length}
+use Rattle.std.proofs.Common.{ℕ, suc, ◌+◌, ◌<◌, Bool, true, false, not, List, [], ◌∷◌, ◌++◌, map, ◌≡◌, refl, sym, ap, ◌∙◌, arith, length}
 use Rattle.std.specs.Prelude.{slice_index_or}
 use Rattle.std.specs.List.{list_any}
 use Rattle.std.proofs.lemmas.List.{length-map}
@@ -25,7 +25,9 @@ use Rattle.wt_instance.specs.declared.instance.Instance.{Instance}
 use Rattle.wt_instance.specs.Instances.{width, numbers, is_true, IsWide}
 use Rattle.wt_instance.specs.Rows as rows
 use Rattle.wt_instance.specs.Rows.{Named, values, values_at, columns_of, joined, or_nulls, named_same, named_rows}
+use Rattle.wt_instance.specs.SideBags.{matching}
 use Rattle.wt_instance.proofs.NamedRows.{named_same_decides}
+use Rattle.wt_instance.proofs.SideBags.{joined-total, padded-total}
 use Rattle.wt_rows.specs.FormRows.{Piece, Env, FormRow, form_row_same, label, labels, part_values, values_of, row_of, put_together, terms_rows, range_rows}
 use Rattle.wt_rows.specs.Fits.{ValuesFit, RowFits}
 use Rattle.wt_rows.proofs.Sums.{form_rows_decide, term_total}
@@ -34,7 +36,7 @@ use Rattle.wt_rows.proofs.Exist.{expr_within}
 use Rattle.wt_rows.proofs.TermSums.{total-terms, terms_total-append, one_total}
 use Rattle.wt_rows.proofs.Naming.{named_row, ListStands}
 use Rattle.wt_rows.proofs.SideFits.{TermStands, SideStands, list_fits, side_stands, stands_rows}
-use Rattle.wt_rows.proofs.SideRows.{named_total, column_values, matching, law_proj, law_cond, law_inner, law_left, law_input, any_named, or_nulls-total, joined-total, list_any-filter, list_any-map, values_put}
+use Rattle.wt_rows.proofs.SideRows.{named_total, column_values, law_proj, law_cond, law_inner, law_left, law_input, any_named, values_put}
 
 -- rows that fit one head are equal where their values put together are
 same_first : (v w : Value) (vs ws : Tuple) → v ∷ vs ≡ w ∷ ws → (v ≡ w) × (vs ≡ ws)
@@ -127,13 +129,13 @@ module _ (I : Instance) (A : List ℕ) (wide : (r : ℕ) → IsWide I r) where
       (λ rs cs ps t e ch. ap (is_true I p) (sym (column_values I A wide (head_of s A) rs cs ps a h.0.0 t e ch))) (law s h.2) g
   law (inner_join a b s t) h g =
       total-flat_map g (λ v. joined A I a b v (named_rows t A I)) (named_rows s A I)
-      ∙ total_ext _ _ (named_rows s A I) (λ v. joined-total I A wide g a b v (named_rows t A I))
+      ∙ total_ext _ _ (named_rows s A I) (λ v. joined-total A I g a b v (named_rows t A I))
       ∙ law_inner I A wide (head_of s A) (head_of t A) (side_terms s A) (side_terms t A) a b (named_rows s A I) (named_rows t A I) h.0.0 h.1.0 (side_stands I A wide s h.2) (side_stands I A wide t h.3) (within (head_of s A) a h.0.0 h.0.1) (law s h.2) (law t h.3) g
   law (left_join a b s t) h g =
       total-flat_map g (λ v. or_nulls v (columns_of t A I) (joined A I a b v (named_rows t A I))) (named_rows s A I)
-      ∙ total_ext _ (λ v. total (λ w. only (matching I A wide a b v w) (g (v ++ w))) (named_rows t A I) + only (not (list_any (λ w. matching I A wide a b v w) (named_rows t A I))) (g (v ++ rows.nulls (columns_of t A I)))) (named_rows s A I) one
+      ∙ total_ext _ (λ v. total (λ w. only (matching A I a b v w) (g (v ++ w))) (named_rows t A I) + only (not (list_any (λ w. matching A I a b v w) (named_rows t A I))) (g (v ++ rows.nulls (columns_of t A I)))) (named_rows s A I) one
       ∙ total-add _ _ (named_rows s A I)
-      ∙ ap (λ n. n + total (λ v. only (not (list_any (λ w. matching I A wide a b v w) (named_rows t A I))) (g (v ++ rows.nulls (columns_of t A I)))) (named_rows s A I))
+      ∙ ap (λ n. n + total (λ v. only (not (list_any (λ w. matching A I a b v w) (named_rows t A I))) (g (v ++ rows.nulls (columns_of t A I)))) (named_rows s A I))
       (law_inner I A wide (head_of s A) (head_of t A) (side_terms s A) (side_terms t A) a b (named_rows s A I) (named_rows t A I) h.0.0 h.1.0 (side_stands I A wide s h.2) (side_stands I A wide t h.3) (within (head_of s A) a h.0.0 h.0.1) (law s h.2) (law t h.3) g)
       ∙ ap (λ n. named_total I A wide g (head_of s A ++ head_of t A) (join_terms (list_of (head_of s A) A a) (list_of (head_of t A) A b) (side_terms s A) (side_terms t A)) + n)
       (law_left I A wide (head_of s A) t (side_terms s A) a b (named_rows s A I) (named_rows t A I) h.0.0 h.1.0 h.1.1 (side_stands I A wide s h.2) (side_stands I A wide t h.3) (law s h.2) (law t h.3) g)
@@ -141,15 +143,9 @@ module _ (I : Instance) (A : List ℕ) (wide : (r : ℕ) → IsWide I r) where
       (join_terms (list_of (head_of s A) A a) (list_of (head_of t A) A b) (side_terms s A) (side_terms t A))
       (each_term (null_term (λ ps. not_in (list_of (head_of s A) A a ps) (list_part A b ∷ []) (each_term (proj_term (list_of (head_of t A) A b)) (side_terms t A))) (head_of t A)) (side_terms s A)))
     where
-      test : (v : Named) → list_any (λ w. true) (joined A I a b v (named_rows t A I)) ≡ list_any (λ w. matching I A wide a b v w) (named_rows t A I)
-      test v = list_any-map I A wide (λ w. true) (λ w. v ++ w) (filter (matching I A wide a b v) (named_rows t A I)) ∙ list_any-filter I A wide (matching I A wide a b v) (named_rows t A I)
-
       one : (v : Named) → total g (or_nulls v (columns_of t A I) (joined A I a b v (named_rows t A I)))
-          ≡ total (λ w. only (matching I A wide a b v w) (g (v ++ w))) (named_rows t A I) + only (not (list_any (λ w. matching I A wide a b v w) (named_rows t A I))) (g (v ++ rows.nulls (columns_of t A I)))
-      one v =
-          or_nulls-total I A wide g v t (joined A I a b v (named_rows t A I))
-          ∙ ap (λ n. n + only (not (list_any (λ w. true) (joined A I a b v (named_rows t A I)))) (g (v ++ rows.nulls (columns_of t A I)))) (joined-total I A wide g a b v (named_rows t A I))
-          ∙ ap (λ z. total (λ w. only (matching I A wide a b v w) (g (v ++ w))) (named_rows t A I) + only (not z) (g (v ++ rows.nulls (columns_of t A I)))) (test v)
+          ≡ total (λ w. only (matching A I a b v w) (g (v ++ w))) (named_rows t A I) + only (not (list_any (λ w. matching A I a b v w) (named_rows t A I))) (g (v ++ rows.nulls (columns_of t A I)))
+      one v = padded-total A I g a b v (columns_of t A I) (named_rows t A I)
   law (in_sub a s t) h g =
       law_cond I A wide (head_of s A) (side_terms s A) (λ ps. is_in (list_of (head_of s A) A a ps) (head_of t A) (side_terms t A)) (λ v. list_any (λ w. row_matches (values_at A I a v) (values w)) (named_rows t A I)) (named_rows s A I) (side_stands I A wide s h.1)
       (λ rs cs ps t' e ch.

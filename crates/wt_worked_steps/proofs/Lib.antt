@@ -1,0 +1,5 @@
+mod Inverting
+mod DropRows
+mod JoinRows
+mod NestedRows
+mod CongruentRows

@@ -1,5 +1,5 @@
 //! The plans of joins, and what is refused of their conditions.
-ghost use Rattle.std.specs.Prelude.{◌≡◌, ◌≤◌, ◌<◌, None, not, IfOk};
+ghost use Rattle.std.specs.Prelude.{◌≡◌, ◌≤◌, ◌<◌, ◌^◌, None, not, length, IfOk};
 ghost use Rattle.std.specs.List.{list_all, list_any};
 ghost use Rattle.wt_bag.specs.Bags.{Each};
 ghost use Rattle.wt_plan.specs.Tree.{plan_tree};
@@ -21,10 +21,10 @@ use wt_value::{Cols, WantOfMemory};
 /// The operands of a join: how many columns the left one has in scope, where the columns of each stand in its plan's rows,
 /// and the plans.
 #[derive(Drop)]
-pub struct Operands {
+pub struct Operands<'a> {
     pub n: u32,
-    pub lefts: Vec<u32>,
-    pub rights: Vec<u32>,
+    pub lefts: &'a [u32],
+    pub rights: &'a [u32],
     pub left: Plan,
     pub right: Plan,
 }
@@ -56,7 +56,10 @@ pub fn inner_plan(
     places: &[u32],
     conjuncts: Vec<Conjunct>,
 ) -> Result<Plan, BuildError>
-    ensures { Tells None (λ p. plan_tree p ≡ spec.inner_of operands.n operands.lefts.items operands.rights.items places.now (conjunct_trees conjuncts.items) (plan_tree operands.left) (plan_tree operands.right)) result }
+    requires lefts { length operands.lefts.now < 2 ^ 32 }
+    requires rights { length operands.rights.now < 2 ^ 32 }
+    requires places { length places.now < 2 ^ 32 }
+    ensures { Tells None (λ p. plan_tree p ≡ spec.inner_of operands.entry.n operands.entry.lefts.now operands.entry.rights.now places.now (conjunct_trees conjuncts.items) (plan_tree operands.entry.left) (plan_tree operands.entry.right)) result }
 {
     let Operands {
         n,
@@ -66,8 +69,8 @@ pub fn inner_plan(
         right,
     } = operands;
     let Sorted { pairs, others } = sorted_by(alloc, n, conjuncts)?;
-    let a = firsts_at(alloc, &lefts, &pairs)?;
-    let b = seconds_at(alloc, &rights, &pairs)?;
+    let a = firsts_at(alloc, lefts, &pairs)?;
+    let b = seconds_at(alloc, rights, &pairs)?;
     let join = inner_joined(alloc, a, b, left, right)?;
     stacked(alloc, places, others, join)
 }
@@ -78,8 +81,10 @@ pub fn left_plan(
     operands: Operands,
     conjuncts: Vec<Conjunct>,
 ) -> Result<Plan, BuildError>
-    requires { Each (λ j. Each (λ k. operands.n ≤ k) (spec.conjunct_columns j)) (spec.others_of operands.n (conjunct_trees conjuncts.items)) }
-    ensures { Tells None (λ p. plan_tree p ≡ spec.left_of operands.n operands.lefts.items operands.rights.items (conjunct_trees conjuncts.items) (plan_tree operands.left) (plan_tree operands.right)) result }
+    requires lefts { length operands.lefts.now < 2 ^ 32 }
+    requires rights { length operands.rights.now < 2 ^ 32 }
+    requires right { Each (λ j. Each (λ k. operands.n ≤ k) (spec.conjunct_columns j)) (spec.others_of operands.n (conjunct_trees conjuncts.items)) }
+    ensures { Tells None (λ p. plan_tree p ≡ spec.left_of operands.entry.n operands.entry.lefts.now operands.entry.rights.now (conjunct_trees conjuncts.items) (plan_tree operands.entry.left) (plan_tree operands.entry.right)) result }
 {
     let Operands {
         n,
@@ -89,9 +94,9 @@ pub fn left_plan(
         right,
     } = operands;
     let Sorted { pairs, others } = sorted_by(alloc, n, conjuncts)?;
-    let a = firsts_at(alloc, &lefts, &pairs)?;
-    let b = seconds_at(alloc, &rights, &pairs)?;
-    let right = stacked_right(alloc, &rights, n, others, right)?;
+    let a = firsts_at(alloc, lefts, &pairs)?;
+    let b = seconds_at(alloc, rights, &pairs)?;
+    let right = stacked_right(alloc, rights, n, others, right)?;
     left_joined(alloc, a, b, left, right)
 }
 
@@ -102,7 +107,9 @@ pub fn right_plan(
     operands: Operands,
     conjuncts: Vec<Conjunct>,
 ) -> Result<Plan, BuildError>
-    ensures { Tells None (λ p. plan_tree p ≡ spec.right_of operands.n operands.lefts.items operands.rights.items (conjunct_trees conjuncts.items) (plan_tree operands.left) (plan_tree operands.right)) result }
+    requires lefts { length operands.lefts.now < 2 ^ 32 }
+    requires rights { length operands.rights.now < 2 ^ 32 }
+    ensures { Tells None (λ p. plan_tree p ≡ spec.right_of operands.entry.n operands.entry.lefts.now operands.entry.rights.now (conjunct_trees conjuncts.items) (plan_tree operands.entry.left) (plan_tree operands.entry.right)) result }
 {
     let Operands {
         n,
@@ -112,9 +119,9 @@ pub fn right_plan(
         right,
     } = operands;
     let Sorted { pairs, others } = sorted_by(alloc, n, conjuncts)?;
-    let a = seconds_at(alloc, &rights, &pairs)?;
-    let b = firsts_at(alloc, &lefts, &pairs)?;
-    let left = stacked(alloc, &lefts, others, left)?;
+    let a = seconds_at(alloc, rights, &pairs)?;
+    let b = firsts_at(alloc, lefts, &pairs)?;
+    let left = stacked(alloc, lefts, others, left)?;
     left_joined(alloc, a, b, right, left)
 }
 

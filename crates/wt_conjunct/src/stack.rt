@@ -1,5 +1,5 @@
 //! Conjuncts over places, and conditions over a plan.
-ghost use Rattle.std.specs.Prelude.{◌≡◌, ◌≤◌, ◌-◌, ◌++◌, [], ◌∷◌, ℕ, None, map, IfOk, OnOk};
+ghost use Rattle.std.specs.Prelude.{◌≡◌, ◌≤◌, ◌<◌, ◌-◌, ◌^◌, ◌++◌, [], ◌∷◌, ℕ, None, length, map, IfOk, OnOk};
 ghost use Rattle.std.specs.List.{list_all, list_any};
 ghost use Rattle.wt_bag.specs.Bags.{Each};
 ghost use Rattle.wt_bag.specs.Choices.{Has};
@@ -15,7 +15,6 @@ use std::alloc::Global;
 use wt_plan::Plan;
 use wt_pred::{Cmp, Operand, Pred};
 use wt_query_plan::BuildError;
-use wt_resolve::number;
 use wt_value::{Cols, WantOfMemory};
 
 /// A conjunct over places: a predicate, or the columns of a subquery IN and the subquery's plan.
@@ -39,33 +38,36 @@ pub struct Sorted {
     pub others: Vec<Conjunct>,
 }
 
-fn at_place(places: &[u32], k: u32) -> Result<u32, BuildError>
-    ensures { Tells None (λ j. j ≡ spec.at_place places.now k) result }
+fn at_place(places: &[u32], k: u32) -> u32
+    requires narrow { length places.now < 2 ^ 32 }
+    ensures { result ≡ spec.at_place places.now k }
 {
     match places.get(k as usize) {
-        Some(place) => Ok(*place),
-        None => number(places.len()),
+        Some(place) => *place,
+        None => places.len() as u32,
     }
 }
 
 /// Where columns in the order of the text stand in the plan's rows.
 pub fn at_places(alloc: Global, places: &[u32], cols: &[u32]) -> Result<Cols, BuildError>
+    requires narrow { length places.now < 2 ^ 32 }
     ensures { Tells None (λ at. at ≡ map (spec.at_place places.now) cols.now) result }
 {
     let mut at = Cols::new(alloc);
     for k in cols {
-        at.push(at_place(places, *k)?)?;
+        at.push(at_place(places, *k))?;
     }
     Ok(at)
 }
 
 /// The same for columns of the right operand of a join, whose left one has n.
 fn right_places(alloc: Global, places: &[u32], n: u32, cols: &[u32]) -> Result<Cols, BuildError>
+    requires narrow { length places.now < 2 ^ 32 }
     ensures { Tells None (λ at. at ≡ map (λ k. spec.at_place places.now (k - n)) cols.now) result }
 {
     let mut at = Cols::new(alloc);
     for k in cols {
-        at.push(at_place(places, k.saturating_sub(n))?)?;
+        at.push(at_place(places, k.saturating_sub(n)))?;
     }
     Ok(at)
 }
@@ -80,6 +82,7 @@ fn filtered(
     requires there { Each (λ c. Has c cols.now) (occurring (pred_tree pred)) }
     ensures { Tells None (λ p. plan_tree p ≡ plans.filtered (renumbered (place_in cols.now) (pred_tree pred)) at (plan_tree plan)) result }
 {
+    // The columns of a predicate are different numbers of 32 bits, so there are never more.
     if cols.len() > u32::MAX as usize {
         return Err(BuildError::Memory);
     }
@@ -95,6 +98,7 @@ fn in_query(alloc: Global, cols: Cols, plan: Plan, subquery: Plan) -> Result<Pla
 }
 
 fn kept(alloc: Global, places: &[u32], pred: Pred, plan: Plan) -> Result<Plan, BuildError>
+    requires narrow { length places.now < 2 ^ 32 }
     ensures { Tells None (λ p. plan_tree p ≡ spec.kept places.now (pred_tree pred) (plan_tree plan)) result }
 {
     let cols = pred.columns(alloc)?;
@@ -109,7 +113,8 @@ fn kept_right(
     pred: Pred,
     plan: Plan,
 ) -> Result<Plan, BuildError>
-    requires { Each (λ k. n ≤ k) (occurring (pred_tree pred)) }
+    requires narrow { length places.now < 2 ^ 32 }
+    requires right { Each (λ k. n ≤ k) (occurring (pred_tree pred)) }
     ensures { Tells None (λ p. plan_tree p ≡ spec.kept places.now (renumbered (λ k. k - n) (pred_tree pred)) (plan_tree plan)) result }
 {
     let cols = pred.columns(alloc)?;
@@ -119,6 +124,7 @@ fn kept_right(
 
 /// A conjunct over a plan.
 fn above(alloc: Global, places: &[u32], conjunct: Conjunct, plan: Plan) -> Result<Plan, BuildError>
+    requires narrow { length places.now < 2 ^ 32 }
     ensures { Tells None (λ p. plan_tree p ≡ spec.above places.now (conjunct_tree conjunct) (plan_tree plan)) result }
 {
     match conjunct {
@@ -138,7 +144,8 @@ fn above_right(
     conjunct: Conjunct,
     plan: Plan,
 ) -> Result<Plan, BuildError>
-    requires { Each (λ k. n ≤ k) (spec.conjunct_columns (conjunct_tree conjunct)) }
+    requires narrow { length places.now < 2 ^ 32 }
+    requires right { Each (λ k. n ≤ k) (spec.conjunct_columns (conjunct_tree conjunct)) }
     ensures { Tells None (λ p. plan_tree p ≡ spec.above places.now (spec.on_right n (conjunct_tree conjunct)) (plan_tree plan)) result }
 {
     match conjunct {
@@ -157,6 +164,7 @@ pub fn stacked(
     conjuncts: Vec<Conjunct>,
     mut plan: Plan,
 ) -> Result<Plan, BuildError>
+    requires narrow { length places.now < 2 ^ 32 }
     ensures { Tells None (λ p. plan_tree p ≡ spec.stacked places.now (conjunct_trees conjuncts.items) (plan_tree plan)) result }
 {
     for conjunct in conjuncts {
@@ -173,7 +181,8 @@ pub fn stacked_right(
     conjuncts: Vec<Conjunct>,
     mut plan: Plan,
 ) -> Result<Plan, BuildError>
-    requires { Each (λ j. Each (λ k. n ≤ k) (spec.conjunct_columns j)) (conjunct_trees conjuncts.items) }
+    requires narrow { length places.now < 2 ^ 32 }
+    requires right { Each (λ j. Each (λ k. n ≤ k) (spec.conjunct_columns j)) (conjunct_trees conjuncts.items) }
     ensures { Tells None (λ p. plan_tree p ≡ spec.stacked places.now (map (spec.on_right n) (conjunct_trees conjuncts.items)) (plan_tree plan)) result }
 {
     for conjunct in conjuncts {
@@ -236,22 +245,24 @@ pub fn sorted_by(alloc: Global, n: u32, conjuncts: Vec<Conjunct>) -> Result<Sort
 
 /// The first columns of the pairs, by their places.
 pub fn firsts_at(alloc: Global, places: &[u32], pairs: &[(u32, u32)]) -> Result<Cols, BuildError>
+    requires narrow { length places.now < 2 ^ 32 }
     ensures { Tells None (λ at. at ≡ map (spec.at_place places.now) (spec.firsts pairs.now)) result }
 {
     let mut at = Cols::new(alloc);
     for pair in pairs {
-        at.push(at_place(places, pair.0)?)?;
+        at.push(at_place(places, pair.0))?;
     }
     Ok(at)
 }
 
 /// The second columns of the pairs, by their places.
 pub fn seconds_at(alloc: Global, places: &[u32], pairs: &[(u32, u32)]) -> Result<Cols, BuildError>
+    requires narrow { length places.now < 2 ^ 32 }
     ensures { Tells None (λ at. at ≡ map (spec.at_place places.now) (spec.seconds pairs.now)) result }
 {
     let mut at = Cols::new(alloc);
     for pair in pairs {
-        at.push(at_place(places, pair.1)?)?;
+        at.push(at_place(places, pair.1))?;
     }
     Ok(at)
 }

@@ -1,5 +1,5 @@
 -- Names among the columns of FROM items, item by item.
-use Rattle.std.proofs.Common.{◌≡◌, ℕ, zero, suc, ◌+◌, ◌-◌, ◌^◌, ◌<◌, ◌≤◌, Bool, true, false, ◌&&◌, cond, List, [], ◌∷◌, ◌++◌, map, length, filter, Option, refl, sym, ap, ◌∙◌, arith}
+use Rattle.std.proofs.Common.{◌≡◌, ℕ, zero, suc, ◌+◌, ◌-◌, ◌^◌, ◌<◌, ◌≤◌, Bool, true, false, ◌&&◌, cond, List, [], ◌∷◌, ◌++◌, map, length, length-append, filter, Option, refl, sym, ap, ◌∙◌, arith}
 use Rattle.std.specs.Prelude.{min, flat_map}
 use Rattle.std.specs.Str.{bytes_eq}
 use Rattle.wt_ast.specs.declared.tree.ColumnName.{ColumnName}
@@ -99,3 +99,10 @@ place_passed c i rest before k whole e h f =
     let most = place_at_most (item_columns i) c in
     let behind = place_behind (item_columns i) (columns_of rest) c (omega (arith, e, h, l)) in
     omega (arith, e, f, behind, l, most)
+
+-- how many columns there are, one item more
+pub columns_counted : (i : ScopeItem) (rest : List ScopeItem) → length (columns_of (i ∷ rest)) ≡ length i.names + length (columns_of rest)
+columns_counted i rest = length-append (item_columns i) (columns_of rest) ∙ ap (λ n. n + length (columns_of rest)) (length_map (in_scope i.alias) i.names)
+
+pub place_within : (c : ColumnName) (i : ScopeItem) → place_of (item_columns i) c ≤ length i.names
+place_within c i = let l : length (item_columns i) ≡ length i.names = length_map (in_scope i.alias) i.names in omega (arith, l, place_at_most (item_columns i) c)

@@ -76,6 +76,7 @@ fn operand_kind(kinds: &[ColKind], operand: &Operand) -> ColKind
 }
 
 fn operand(alloc: Global, scope: &Scope, s: &Scalar) -> Result<Operand, BuildError>
+    requires narrow { length (inside scope.now) < 2 ^ 32 }
     ensures { Tells (faults.scalar_fault (outside scope.now) (inside scope.now) s.now) (λ o. o ≡ spec.operand_of (inside scope.now) s.now) result }
 {
     match s {
@@ -92,6 +93,7 @@ fn comparison(
     b: &Scalar,
     at: u32,
 ) -> Result<Pred, BuildError>
+    requires narrow { length (inside scope.now) < 2 ^ 32 }
     ensures { Tells (faults.compare_fault (outside scope.now) (inside scope.now) scope.now.kinds.now a.now b.now at) (λ p. pred_tree p ≡ spec.compared (inside scope.now) word a.now b.now) result }
 {
     let x = operand(alloc, scope, a)?;
@@ -115,6 +117,7 @@ fn in_list(
     values: &Values,
     at: u32,
 ) -> Result<Pred, BuildError>
+    requires narrow { length (inside scope.now) < 2 ^ 32 }
     ensures { Tells (faults.list_fault (outside scope.now) (inside scope.now) scope.now.kinds.now c.now values.now at) (λ p. pred_tree p ≡ spec.listed_in (inside scope.now) c.now values.now) result }
 {
     let place = column(alloc, scope, c)?;
@@ -127,6 +130,7 @@ fn in_list(
 /// The predicate of a condition without a subquery, over the columns in scope.
 #[cycle(predicate)]
 pub fn predicate(alloc: Global, scope: &Scope, c: &Condition) -> Result<Pred, BuildError>
+    requires narrow { length (inside scope.now) < 2 ^ 32 }
     ensures { Tells (faults.test_fault (outside scope.now) (inside scope.now) scope.now.kinds.now (condition_tree c.now)) (λ p. pred_tree p ≡ spec.pred_of (inside scope.now) (condition_tree c.now)) result }
 {
     match &c.kind {
@@ -147,6 +151,7 @@ pub fn predicate(alloc: Global, scope: &Scope, c: &Condition) -> Result<Pred, Bu
 #[tactic(auto, using(crate::proofs::Befores::befores))]
 #[cycle(predicate)]
 fn predicates(alloc: Global, scope: &Scope, parts: &Conditions) -> Result<Preds, BuildError>
+    requires narrow { length (inside scope.now) < 2 ^ 32 }
     ensures { Tells (faults.tests_fault (outside scope.now) (inside scope.now) scope.now.kinds.now (conditions_tree parts.now)) (λ ps. preds_tree ps ≡ spec.preds_of (inside scope.now) (conditions_tree parts.now)) result }
 {
     let mut built = Vec::new(alloc);

@@ -4,9 +4,7 @@
 mod conditions;
 mod enclosing;
 mod lookup;
-mod numbers;
 
 pub use conditions::{kind_at, predicate, same_kind};
 pub use enclosing::{alias_outside, column_names, columns_named, seen_outside};
 pub use lookup::{Scope, ScopeItem, column};
-pub use numbers::{number, sum};

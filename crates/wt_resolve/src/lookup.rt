@@ -1,5 +1,5 @@
 //! Names become places among the columns in scope.
-ghost use Rattle.std.specs.Prelude.{◌≡◌, ◌+◌, ◌-◌, ◌^◌, min, length, filter, None};
+ghost use Rattle.std.specs.Prelude.{◌≡◌, ◌+◌, ◌-◌, ◌^◌, ◌<◌, ◌≤◌, min, length, filter};
 ghost use Rattle.std.specs.Str.{bytes_eq};
 ghost use Rattle.wt_query_plan.specs.Building as building;
 ghost use Rattle.wt_query_plan.specs.Faults as faults;
@@ -8,7 +8,6 @@ ghost use Rattle.wt_query_rows.specs.Scopes as scopes;
 ghost use Rattle.wt_resolve.specs.Scoping as spec;
 
 use crate::enclosing::seen_outside;
-use crate::numbers::{number, sum};
 use std::alloc::Global;
 use wt_ast::{ColumnName, FromPart};
 use wt_query_plan::{BuildError, BuildFault};
@@ -90,8 +89,10 @@ fn place_in(item: &ScopeItem, c: &ColumnName) -> usize
 }
 
 /// The place of the first column that the name fits, the number of columns where there is none.
-fn place_of(items: &[ScopeItem], c: &ColumnName) -> Result<usize, BuildError>
-    ensures { Tells None (λ k. k ≡ building.place_of (spec.columns_of items.now) c.now) result }
+fn place_of(items: &[ScopeItem], c: &ColumnName) -> usize
+    requires narrow { length (spec.columns_of items.now) < 2 ^ 32 }
+    ensures exact { result ≡ building.place_of (spec.columns_of items.now) c.now }
+    ensures within { result ≤ length (spec.columns_of items.now) }
 {
     let mut before = 0;
     let mut i = 0;
@@ -99,12 +100,12 @@ fn place_of(items: &[ScopeItem], c: &ColumnName) -> Result<usize, BuildError>
         let item = &items[i];
         let place = place_in(item, c);
         if place < item.names.len() {
-            return sum(before, place);
+            return before + place;
         }
-        before = sum(before, place)?;
+        before += place;
         i += 1;
     }
-    Ok(before)
+    before
 }
 
 /// What the names of a condition are looked up in: the schema, the FROM clauses of enclosing queries, the FROM items in scope,
@@ -119,6 +120,7 @@ pub struct Scope<'a> {
 
 /// The place of the one column that the name fits.
 pub fn column(alloc: Global, scope: &Scope, c: &ColumnName) -> Result<u32, BuildError>
+    requires narrow { length (spec.inside scope.now) < 2 ^ 32 }
     ensures { Tells (faults.column_fault (spec.outside scope.now) (spec.inside scope.now) c.now) (λ k. k ≡ building.place_of (spec.inside scope.now) c.now) result }
 {
     match fitting(scope.items, c) {
@@ -129,7 +131,7 @@ pub fn column(alloc: Global, scope: &Scope, c: &ColumnName) -> Result<u32, Build
                 Err(BuildError::Refused(BuildFault::UnknownColumn, c.at))
             }
         }
-        1 => number(place_of(scope.items, c)?),
+        1 => Ok(place_of(scope.items, c) as u32),
         _ => Err(BuildError::Refused(BuildFault::AmbiguousColumn, c.at)),
     }
 }

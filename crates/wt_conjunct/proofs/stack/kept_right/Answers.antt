@@ -17,5 +17,5 @@ returns c =
     let cols : c.in_ok-cols.cols ≡ columns p = c.in_ok-cols.ensures.exact in
     let at : c.in_ok-at.at ≡ map (λ k. spec.at_place c.args.places.now (k - c.args.n)) (columns p) = search (rules, cols) in
     let is : filtered (renumbered (place_in c.in_ok-cols.cols) p) c.in_ok-at.at (plan_tree c.args.plan) ≡ spec.kept c.args.places.now (renumbered (λ k. k - c.args.n) p) (plan_tree c.args.plan) =
-    (λ i. filtered (renumbered (place_in (cols i)) p) (at i) (plan_tree c.args.plan)) ∙ kept_lowered c.args.n c.args.places.now p (plan_tree c.args.plan) c.requires in
+    (λ i. filtered (renumbered (place_in (cols i)) p) (at i) (plan_tree c.args.plan)) ∙ kept_lowered c.args.n c.args.places.now p (plan_tree c.args.plan) c.requires.right in
     subst (λ t. Tells None (λ q. plan_tree q ≡ t) c.filtered.result) is c.filtered.ensures

@@ -6,6 +6,7 @@ use Rattle.wt_resolve.proofs.lookup.place_of.Given as goal
 abbrev pub invariant-items : goal.invariant-items
 invariant-items l = record {
   within : l.i ≤ length l.items;
+  counted : l.before + length (columns_of (drop l.i l.items)) ≤ length (columns_of l.items);
   so_far : l.before + building.place_of (columns_of (drop l.i l.items)) l.c ≡ building.place_of (columns_of l.items) l.c;
 }
 

@@ -1,0 +1,5 @@
+pub mod Clauses
+pub mod Bounded
+pub mod Narrowing
+pub mod Counting
+pub mod Fitting

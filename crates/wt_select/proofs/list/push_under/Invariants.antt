@@ -1,0 +1,8 @@
+use Rattle.std.proofs.Common.{◌≡◌, ◌++◌, [], cond, take}
+use Rattle.std.specs.Prelude.{flat_map}
+use Rattle.std.specs.Str.{bytes_eq}
+use Rattle.wt_resolve.specs.declared.lookup.ScopeItem.{ScopeItem}
+use Rattle.wt_select.proofs.list.push_under.Given as goal
+
+abbrev pub invariant-loop-item : goal.invariant-loop-item
+invariant-loop-item l = l.out.items ≡ l.fn.out.items ++ flat_map (λ (i : ScopeItem). cond (bytes_eq l.alias i.alias) i.names []) (take l.item-index l.items)

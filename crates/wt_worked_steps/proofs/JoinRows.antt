@@ -12,13 +12,13 @@ use Rattle.wt_form.specs.Trees.{Terms, Rel, no_ranges, Conds, no_conds, cond_the
 use Rattle.wt_form.specs.Parts.{one_term, ranges_list, conds_list, ranges_count, conds_append, conds_map}
 use Rattle.wt_form.specs.Congruent.{expr_same, TermsSame}
 use Rattle.wt_form.specs.Places.{itself, list_rows}
-use Rattle.wt_form.specs.Facts.{Joins}
+use Rattle.wt_form.specs.Facts.{Joins, IsOver}
 use Rattle.wt_form.specs.Changes.{expr_before, put, CondAvoids}
 use Rattle.wt_form.specs.Joining.{Joined, JoinToIn, JoinedTogether, Merged, Rewritten}
 use Rattle.wt_form.specs.TwoTerms.{SplitByIn}
 use Rattle.wt_form.specs.Worked.{known, list, one_row, two_rows, only_cond, joined}
 use Rattle.wt_form.proofs.WorkedRows.{rewritten_keeps_lists}
-use Rattle.wt_worked_steps.specs.Shapes.{two_conds, part, match, in_rows, not_in_rows, distinct_values, row_and_distinct, rows_0_1}
+use Rattle.wt_worked_steps.specs.Shapes.{two_conds, part, three_rows, match, in_rows, not_in_rows, distinct_values, row_and_distinct, rows_0_1}
 use Rattle.wt_worked_steps.proofs.Inverting.{conflict, alone, only_place, one_place, one_of_ranges, same_parts, list_parts, leaf_parts}
 
 apart : zero ≡ suc zero → ⊥
@@ -92,6 +92,15 @@ join_stays_by_a_piece us s = elim (one_of_ranges (Rel 0) (Rel 0) s.range s.at) [
   | inr p ↦ s.elsewhere.2.1.0 (sym p.1)
 ]
 
+pub join_stays_by_its_other_side : (us : Terms) → JoinToIn (known true true true) true two_rows (only_cond (Join (list 1 0) (list 1 1))) (list 0 1 ∷ []) us → ⊥
+join_stays_by_its_other_side us s = elim (one_of_ranges (Rel 0) (Rel 0) s.range s.at) [
+  | inl p ↦ s.elsewhere.2.0 (sym p.1)
+  | inr p ↦ elim (subst (λ j. Joins s.e (Of (ranges_count s.at.before) 0 (Listed s.b)) j) (sym (only_place (Join (list 1 0) (list 1 1)) s.join s.place).0) s.joins) [
+    | inl j ↦ s.elsewhere.0 (subst (λ e. IsOver (ranges_count s.at.before) e) j.0 (sym p.1))
+    | inr j ↦ s.elsewhere.0 (subst (λ e. IsOver (ranges_count s.at.before) e) j.1 (sym p.1))
+  ]
+]
+
 pub join_stays_by_a_condition : (us : Terms) → JoinToIn (known true true true) true two_rows (two_conds match (Pred 0 (list 1 1))) (list 0 1 ∷ []) us → ⊥
 join_stays_by_a_condition us s = elim (one_of_ranges (Rel 0) (Rel 0) s.range s.at) [
   | inl p ↦ s.elsewhere.2.0 (sym p.1)
@@ -116,6 +125,21 @@ variables_merge = record {
   leaf = refl;
   unique = refl;
   joined = (0, 0, refl, refl, inl (match, inl refl, inl (refl, refl)));
+  gives = refl;
+}
+
+pub variables_merge_by_expression : Merged (known true false false) three_rows (two_conds (Join (list 0 0) (list 2 1)) (Join (list 1 0) (list 2 1))) [] (one_term two_rows (two_conds (Join (list 0 0) (list 1 1)) (Join (list 0 0) (list 1 1))) [])
+variables_merge_by_expression = record {
+  x = 0;
+  r = 0;
+  s = 0;
+  a = 0;
+  at = record { before = one_row; after = one_row; is = refl };
+  before = omega arith;
+  over = refl;
+  leaf = refl;
+  unique = refl;
+  joined = (0, 0, refl, refl, inr (Join (list 0 0) (list 2 1), Join (list 1 0) (list 2 1), list 2 1, list 2 1, inl refl, inr (inl refl), inl (refl, refl), inl (refl, refl), refl));
   gives = refl;
 }
 
@@ -247,6 +271,24 @@ other_rows_stay s =
 pub no_pieces : (b : Bool) → ((b && false) && true) ≡ true → ⊥
 no_pieces true e = conflict e
 no_pieces false e = conflict e
+
+in_values : (e e' : Expr) (h h' : List Part) (ts ts' : Terms) → is_in e h ts ≡ is_in e' h' ts' → e ≡ e'
+in_values e e' h h' ts ts' q = cc
+
+not_in_values : (e e' : Expr) (h h' : List Part) (ts ts' : Terms) → not_in e h ts ≡ not_in e' h' ts' → e ≡ e'
+not_in_values e e' h h' ts ts' q = cc
+
+pub other_values_stay : SplitByIn (known true true true) one_row (only_cond (in_rows 1 1)) [] one_row (only_cond (not_in (list 0 1) (part 1 1 ∷ []) (list_rows 1 1))) [] → ⊥
+other_values_stay s =
+    let e : list 0 0 ≡ s.e = in_values (list 0 0) s.e (part 1 1 ∷ []) s.h (list_rows 1 1) s.ts (only_place (in_rows 1 1) (is_in s.e s.h s.ts) s.place).0 in
+    let e' : list 0 1 ≡ s.e' = not_in_values (list 0 1) s.e' (part 1 1 ∷ []) s.h' (list_rows 1 1) s.us (only_place (not_in (list 0 1) (part 1 1 ∷ []) (list_rows 1 1)) (not_in s.e' s.h' s.us) s.place').0 in
+    let same : expr_same (known true true true) s.ks (list 0 0) (list 0 1) ≡ true =
+    subst (λ y. expr_same (known true true true) s.ks (list 0 0) y ≡ true) (sym e') (subst (λ x. expr_same (known true true true) s.ks x s.e' ≡ true) (sym e) s.values) in
+    no_values _ same
+  where
+    no_values : (b : Bool) → (b && false) ≡ true → ⊥
+    no_values true f = conflict f
+    no_values false f = conflict f
 
 pub other_pieces_stay : SplitByIn (known true true true) one_row (only_cond (in_rows 1 1)) (list 0 1 ∷ []) one_row (only_cond (not_in_rows 1 1)) (list 0 2 ∷ []) → ⊥
 other_pieces_stay s = no_pieces _ s.same.pieces

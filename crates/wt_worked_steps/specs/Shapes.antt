@@ -13,6 +13,10 @@ use Rattle.wt_form.specs.Worked.{list, one_row, only_cond}
 abbrev pub two_conds : Cond → Cond → Conds
 two_conds c d = cond_then c (cond_then d no_conds)
 
+-- three variables over leaf 0
+abbrev pub three_rows : Ranges
+three_rows = range_then (Rel 0) (range_then (Rel 0) (range_then (Rel 0) no_ranges))
+
 -- list b of leaf r, as a part of a head
 abbrev pub part : ℕ → ℕ → Part
 part r b = record { leaf = r; cols = Listed b }

@@ -1,4 +1,4 @@
-use Rattle.wt_worked_steps.proofs.JoinRows.{join_to_in_by_unique, join_to_in_by_distinct, join_to_in_inside, join_of_many_rows_stays, join_stays_by_a_piece, join_stays_by_a_condition}
+use Rattle.wt_worked_steps.proofs.JoinRows.{join_to_in_by_unique, join_to_in_by_distinct, join_to_in_inside, join_of_many_rows_stays, join_stays_by_a_piece, join_stays_by_a_condition, join_stays_by_its_other_side}
 use Rattle.wt_worked_steps.proofs.joins.joins_become_ins.Goals as goal
 
 pub returns-clause-by_unique : goal.returns-clause-by_unique
@@ -18,3 +18,6 @@ returns-clause-in_pieces c = join_stays_by_a_piece
 
 pub returns-clause-in_conditions : goal.returns-clause-in_conditions
 returns-clause-in_conditions c = join_stays_by_a_condition
+
+pub returns-clause-in_the_join : goal.returns-clause-in_the_join
+returns-clause-in_the_join c = join_stays_by_its_other_side

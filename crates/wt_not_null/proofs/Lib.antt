@@ -1,0 +1,2 @@
+pub mod Respects
+pub mod Nulls

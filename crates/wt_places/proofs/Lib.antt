@@ -1,0 +1,3 @@
+pub mod GainedLaws
+pub mod Splits
+pub mod PlaceLaws

@@ -1,5 +1,5 @@
 -- Deciding that an expression is never NULL.
-use Rattle.std.proofs.Common.{ℕ, zero, suc, ◌≡◌, ◌⊎◌, ◌↔◌, ◌-◌, inl, inr, IsTrue, Bool, true, false, ◌&&◌, ◌||◌, List, [], ◌∷◌, map, refl, sym, ap, ◌∙◌, subst, arith}
+use Rattle.std.proofs.Common.{ℕ, zero, suc, ◌≡◌, ◌⊎◌, ◌↔◌, ◌-◌, inl, inr, Bool, true, false, List, [], ◌∷◌, refl, sym, ap, ◌∙◌, subst}
 use Rattle.std.specs.List.{list_any}
 use Rattle.std.proofs.lemmas.Bool.{false≢true, and_parts, and_from}
 use Rattle.wt_bag.specs.Choices.{At, Has}
@@ -10,10 +10,9 @@ use Rattle.wt_form.specs.declared.form.Expr.TheVariants.{Of, Null as NullOf}
 use Rattle.wt_form.specs.Trees.{FormRange, Rel, distinct_of, Cond, Pred, Join, is_in, not_in}
 use Rattle.wt_form.specs.Known.{Known}
 use Rattle.wt_form.specs.Facts.{NotNull, by_relation, by_condition, Compares}
-use Rattle.wt_facts.specs.declared.facts.LeafList.{LeafList}
 use Rattle.wt_facts.specs.declared.facts.Facts.{Facts}
 use Rattle.wt_facts.specs.Facts.{known_of}
-use Rattle.wt_not_null.specs.NeverNull.{covers, ByRelation, ExprWithin, ComparedWithin, ByCondition, IsNeverNull}
+use Rattle.wt_not_null.specs.NeverNull.{covers, ByRelation, ExprWithin, ComparedWithin, ByCondition}
 use Rattle.wt_not_null.proofs.Respects.{not_null_entry, entry_not_null, within_to, list_law}
 
 abbrev leaf_is : FormRange → ℕ

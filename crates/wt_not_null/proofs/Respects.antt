@@ -1,11 +1,10 @@
 -- What is known does not tell symbols apart that are the same.
-use Rattle.std.proofs.Common.{ℕ, ◌≡◌, ◌⊎◌, inl, inr, Bool, true, false, ◌&&◌, ◌||◌, refl, sym, ap, ◌∙◌, subst}
+use Rattle.std.proofs.Common.{ℕ, ◌≡◌, ◌⊎◌, inl, inr, Bool, true, false, ◌||◌, refl, ap, ◌∙◌}
 use Rattle.std.specs.List.{list_any}
 use Rattle.std.proofs.lemmas.Bool.{and_parts, and_from}
 use Rattle.wt_bag.specs.Choices.{Has}
 use Rattle.wt_bag.proofs.HasLaws.{list_any_has, has_list_any}
 use Rattle.wt_bag.proofs.PairsByLaws.{IsEquivalent}
-use Rattle.wt_facts.specs.declared.sames.Sames.{Sames}
 use Rattle.wt_facts.specs.declared.kept.Kept.{Kept}
 use Rattle.wt_facts.specs.declared.facts.LeafList.{LeafList}
 use Rattle.wt_facts.specs.declared.facts.Facts.{Facts}

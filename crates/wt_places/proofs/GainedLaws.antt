@@ -1,7 +1,7 @@
 -- What calls that add to a list of sums have added, one after another.
-use Rattle.std.proofs.Common.{ℕ, zero, suc, ◌+◌, ◌<◌, ◌≤◌, ◌≡◌, ◌⊎◌, ◌↔◌, List, [], ◌∷◌, ◌++◌, map, take, get_or, length, refl, sym, ap, ◌∙◌, subst, inl, inr, arith}
+use Rattle.std.proofs.Common.{ℕ, zero, suc, ◌+◌, ◌<◌, ◌≡◌, ◌⊎◌, ◌↔◌, List, [], ◌∷◌, ◌++◌, map, take, get_or, length, refl, sym, ap, ◌∙◌, subst, inl, inr, arith}
 use Rattle.std.proofs.lemmas.Bool.{cases_order}
-use Rattle.wt_bag.specs.Choices.{At, Has, drop_at}
+use Rattle.wt_bag.specs.Choices.{Has, drop_at}
 use Rattle.wt_bag.proofs.HasLaws.{has_left, has_right, has_split}
 use Rattle.wt_form.specs.Trees.{Terms, Cond}
 use Rattle.wt_form.specs.Parts.{one_term}

@@ -1,8 +1,8 @@
 -- Places of lists: what a loop over them has added, and lists inside a form split there.
-use Rattle.std.proofs.Common.{ℕ, zero, suc, ◌+◌, ◌<◌, ◌≤◌, ◌≡◌, ◌⊎◌, ◌↔◌, List, [], ◌∷◌, ◌++◌, map, take, drop, get_or, length, refl, sym, ap, ◌∙◌, subst, inl, inr, arith}
-use Rattle.wt_bag.specs.Choices.{At, Has, drop_at}
-use Rattle.wt_form.specs.Trees.{Terms, Ranges, no_ranges, range_then, FormRange, Conds, no_conds, cond_then, Cond}
-use Rattle.wt_form.specs.Parts.{conds_append, ranges_append, ranges_count, ranges_list, conds_list}
+use Rattle.std.proofs.Common.{ℕ, zero, suc, ◌<◌, ◌≤◌, ◌≡◌, ◌↔◌, List, [], ◌∷◌, map, take, drop, get_or, length, refl, sym, ap, ◌∙◌, subst, inl, inr, arith}
+use Rattle.wt_bag.specs.Choices.{At, Has}
+use Rattle.wt_form.specs.Trees.{Terms, Conds, no_conds, cond_then, Cond}
+use Rattle.wt_form.specs.Parts.{conds_append, conds_list}
 use Rattle.wt_congruent.proofs.Pairing.{at_put, at_get}
 use Rattle.wt_places.specs.Lists.{conds_from}
 use Rattle.wt_places.specs.Gained.{Gained, Upto, AtPlace, EachOf}

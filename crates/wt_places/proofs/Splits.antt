@@ -1,7 +1,6 @@
 -- Lists inside a form split at a place.
-use Rattle.std.proofs.Common.{ℕ, zero, suc, ◌+◌, ◌<◌, ◌≡◌, List, [], ◌∷◌, take, length, refl, sym, ap, ◌∙◌, subst, arith}
+use Rattle.std.proofs.Common.{ℕ, zero, suc, ◌+◌, ◌<◌, ◌≡◌, List, [], ◌∷◌, take, length, refl, ap, subst, arith}
 use Rattle.wt_bag.specs.Choices.{At, drop_at}
-use Rattle.wt_form.specs.declared.form.Expr.{Expr}
 use Rattle.wt_form.specs.Trees.{Terms, no_terms, term_then, Ranges, no_ranges, range_then, FormRange, Conds, no_conds, cond_then, Cond}
 use Rattle.wt_form.specs.Parts.{terms_append, ranges_append, conds_append, ranges_count, ranges_list, conds_list}
 use Rattle.wt_form.specs.Views.{OneTerm, terms_from, terms_list}

@@ -4,9 +4,9 @@ ghost use Rattle.wt_ddl.specs.Giving.{Gives, Takes};
 ghost use Rattle.wt_ddl.specs.Reading as spec;
 
 use crate::fault::{DdlError, DdlFault};
-use crate::names::{close, word};
-use crate::rest::{Rest, Text, at_open};
-use wt_lex::{LexFault, TokenKind};
+use crate::names::{symbol, word};
+use crate::rest::{Rest, Text, at_mark};
+use wt_lex::{LexFault, Sym, TokenKind};
 use wt_schema::ColKind;
 
 #[tactic(auto, unfolding(crate::specs::Reading::number))]
@@ -33,12 +33,12 @@ fn width(text: &Text, rest: &Rest) -> Result<(ColKind, usize), DdlError>
     ensures exact { Gives result (spec.width text.now rest.now) }
     ensures within { IfOk result (λ x. x.1 ≤ length rest.now) }
 {
-    if !at_open(rest) {
+    if !at_mark(rest, Sym::Open) {
         return Ok((ColKind::Text, 0));
     }
     let a = rest.after(1);
     let n = number(text, &a)?;
-    let m = close(text, &a.after(n))?;
+    let m = symbol(text, &a.after(n), Sym::Close)?;
     Ok((ColKind::Text, 1 + n + m))
 }
 

@@ -1,15 +1,16 @@
 //! Words, symbols, names and lists of names.
 ghost use Rattle.std.specs.Prelude.{◌≡◌, ◌≤◌, length, IfOk};
-ghost use Rattle.wt_reading.specs.Lexemes.{is_open, is_close, is_comma, is_semi};
+ghost use Rattle.wt_reading.specs.Lexemes.{is_kind, is_comma};
 ghost use Rattle.wt_reading.specs.Readings.{list, more};
 ghost use Rattle.wt_ddl.specs.Giving.{Gives, Takes, Adds};
 ghost use Rattle.wt_ddl.specs.Reading as spec;
 
 use crate::fault::{DdlError, DdlFault};
-use crate::rest::{Rest, Text, at_close, at_comma, at_name, at_open, at_semi};
+use crate::rest::{Rest, Text, at_mark, at_name};
 use crate::syntax::{Named, NamedList};
 use std::alloc::Global;
-use wt_lex::name_of;
+use wt_lex::{Sym, name_of};
+use wt_reading::Kind;
 
 // A word that must stand here.
 #[tactic(auto, unfolding(wt_reading::specs::Readings::expect))]
@@ -23,34 +24,13 @@ pub(crate) fn word(text: &Text, rest: &Rest, wanted: &[u8]) -> Result<usize, Ddl
     Ok(1)
 }
 
+// A symbol that must stand here.
 #[tactic(auto, unfolding(wt_reading::specs::Readings::expect))]
-pub(crate) fn open(text: &Text, rest: &Rest) -> Result<usize, DdlError>
-    ensures exact { Takes result (spec.symbol text.now is_open rest.now) }
+pub(crate) fn symbol(text: &Text, rest: &Rest, wanted: Sym) -> Result<usize, DdlError>
+    ensures exact { Takes result (spec.symbol text.now (is_kind (Kind.Mark wanted)) rest.now) }
     ensures one { IfOk result (λ n. (n ≡ 1) × (1 ≤ length rest.now)) }
 {
-    if !at_open(rest) {
-        return Err(text.no(DdlFault::Syntax, rest));
-    }
-    Ok(1)
-}
-
-#[tactic(auto, unfolding(wt_reading::specs::Readings::expect))]
-pub(crate) fn close(text: &Text, rest: &Rest) -> Result<usize, DdlError>
-    ensures exact { Takes result (spec.symbol text.now is_close rest.now) }
-    ensures one { IfOk result (λ n. (n ≡ 1) × (1 ≤ length rest.now)) }
-{
-    if !at_close(rest) {
-        return Err(text.no(DdlFault::Syntax, rest));
-    }
-    Ok(1)
-}
-
-#[tactic(auto, unfolding(wt_reading::specs::Readings::expect))]
-pub(crate) fn semi(text: &Text, rest: &Rest) -> Result<usize, DdlError>
-    ensures exact { Takes result (spec.symbol text.now is_semi rest.now) }
-    ensures one { IfOk result (λ n. (n ≡ 1) × (1 ≤ length rest.now)) }
-{
-    if !at_semi(rest) {
+    if !at_mark(rest, wanted) {
         return Err(text.no(DdlFault::Syntax, rest));
     }
     Ok(1)
@@ -83,12 +63,12 @@ pub(crate) fn names(alloc: Global, text: &Text, rest: &Rest) -> Result<(NamedLis
     ensures exact { Gives result (spec.names text.now rest.now) }
     ensures within { IfOk result (λ x. x.1 ≤ length rest.now) }
 {
-    if !at_open(rest) {
+    if !at_mark(rest, Sym::Open) {
         return Err(text.no(DdlFault::Syntax, rest));
     }
     let a = rest.after(1);
     let (all, n) = name_list(alloc, text, &a)?;
-    let m = close(text, &a.after(n))?;
+    let m = symbol(text, &a.after(n), Sym::Close)?;
     Ok((all, 1 + n + m))
 }
 
@@ -114,7 +94,7 @@ fn more_names(
     ensures within { IfOk result (λ n. n ≤ length rest.now) }
 {
     let mut at = 0;
-    'parts: while at_comma(&rest.after(at)) {
+    'parts: while at_mark(&rest.after(at), Sym::Comma) {
         let (next, n) = name(alloc, text, &rest.after(at + 1))?;
         all.push(next)?;
         at += n + 1;

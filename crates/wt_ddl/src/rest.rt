@@ -87,38 +87,20 @@ pub(crate) fn is_end(rest: &Rest) -> bool
     rest.first().is_none()
 }
 
-pub(crate) fn at_open(rest: &Rest) -> bool
-    ensures { result ≡ base.at base.is_open rest.now }
+fn is_symbol(kind: TokenKind, wanted: Sym) -> bool
+    ensures { (w : Option Word) → result ≡ base.is_kind (Kind.Mark wanted) (base.kind_by kind w) }
 {
-    match rest.first() {
-        Some(token) => matches!(token.kind, TokenKind::Symbol(Sym::Open)),
-        None => false,
+    match kind {
+        TokenKind::Symbol(sym) => wanted == sym,
+        _ => false,
     }
 }
 
-pub(crate) fn at_close(rest: &Rest) -> bool
-    ensures { result ≡ base.at base.is_close rest.now }
+pub(crate) fn at_mark(rest: &Rest, wanted: Sym) -> bool
+    ensures { result ≡ base.at (base.is_kind (Kind.Mark wanted)) rest.now }
 {
     match rest.first() {
-        Some(token) => matches!(token.kind, TokenKind::Symbol(Sym::Close)),
-        None => false,
-    }
-}
-
-pub(crate) fn at_comma(rest: &Rest) -> bool
-    ensures { result ≡ base.at base.is_comma rest.now }
-{
-    match rest.first() {
-        Some(token) => matches!(token.kind, TokenKind::Symbol(Sym::Comma)),
-        None => false,
-    }
-}
-
-pub(crate) fn at_semi(rest: &Rest) -> bool
-    ensures { result ≡ base.at base.is_semi rest.now }
-{
-    match rest.first() {
-        Some(token) => matches!(token.kind, TokenKind::Symbol(Sym::Semi)),
+        Some(token) => is_symbol(token.kind, wanted),
         None => false,
     }
 }

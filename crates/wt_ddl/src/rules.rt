@@ -9,12 +9,13 @@ ghost use Rattle.wt_reading.specs.Readings.{one_more};
 use crate::fault::{DdlError, DdlFault};
 use crate::kinds::kind_of;
 use crate::names::{name, names, word};
-use crate::rest::{Rest, Text, at_comma, at_some_word};
+use crate::rest::{Rest, Text, at_mark, at_some_word};
 use crate::syntax::{
     ColumnPart, ColumnRule, ColumnRules, Element, Elements, Named, TableRule, Target,
 };
 use crate::targets::target;
 use std::alloc::Global;
+use wt_lex::Sym;
 use wt_value::Name;
 
 /// The greatest number of columns of a table.
@@ -386,7 +387,7 @@ pub(crate) fn more_elements(
     ensures within { IfOk result (λ n. n ≤ length rest.now) }
 {
     let mut at = 0;
-    'parts: while at_comma(&rest.after(at)) {
+    'parts: while at_mark(&rest.after(at), Sym::Comma) {
         at += next_element(alloc, text, all, &rest.after(at))?;
     }
     Ok(at)

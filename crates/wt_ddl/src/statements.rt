@@ -5,13 +5,14 @@ ghost use Rattle.wt_ddl.specs.Reading as spec;
 ghost use Rattle.wt_reading.specs.Readings.{one_more, repeat};
 
 use crate::fault::{DdlError, DdlFault};
-use crate::names::{close, name, open, semi, word};
-use crate::rest::{Rest, Text, at_semi, is_end};
+use crate::names::{name, symbol, word};
+use crate::rest::{Rest, Text, at_mark, is_end};
 use crate::rules::{element, more_elements};
 use crate::settling::settled;
 use crate::syntax::Elements;
 use crate::table::{TableRead, TablesRead};
 use std::alloc::Global;
+use wt_lex::Sym;
 use wt_value::Name;
 
 /// The greatest number of tables.
@@ -29,13 +30,13 @@ fn elements_of(alloc: Global, text: &Text, rest: &Rest) -> Result<(Elements, usi
     ensures exact { Gives result (spec.elements_of text.now rest.now) }
     ensures within { IfOk result (λ x. x.1 ≤ length rest.now) }
 {
-    let a = rest.after(open(text, rest)?);
+    let a = rest.after(symbol(text, rest, Sym::Open)?);
     let (first, n) = element(alloc, text, &[], &a)?;
     let mut all = Elements::new(alloc);
     all.push(first)?;
     let b = a.after(n);
     let m = more_elements(alloc, text, &mut all, &b)?;
-    let k = close(text, &b.after(m))?;
+    let k = symbol(text, &b.after(m), Sym::Close)?;
     Ok((all, 1 + n + m + k))
 }
 
@@ -62,7 +63,7 @@ fn ending(text: &Text, rest: &Rest) -> Result<usize, DdlError>
     if is_end(rest) {
         return Ok(0);
     }
-    semi(text, rest)
+    symbol(text, rest, Sym::Semi)
 }
 
 #[tactic(auto, unfolding(crate::specs::Reading::if_not_exists))]
@@ -142,7 +143,7 @@ fn statement(
     ensures exact { Leaves result tables.new (spec.statement text.now tables.old rest.now) }
     ensures within { IfOk result (λ n. (1 ≤ n) × (n ≤ length rest.now)) }
 {
-    if at_semi(rest) {
+    if at_mark(rest, Sym::Semi) {
         return Ok(1);
     }
     if text.at_word(rest, b"create") && text.at_word(&rest.after(1), b"table") {

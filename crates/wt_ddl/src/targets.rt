@@ -5,9 +5,10 @@ ghost use Rattle.wt_ddl.specs.Reading as spec;
 
 use crate::fault::{DdlError, DdlFault};
 use crate::names::{name, names, word};
-use crate::rest::{Rest, Text, at_open};
+use crate::rest::{Rest, Text, at_mark};
 use crate::syntax::{NamedList, Target};
 use std::alloc::Global;
+use wt_lex::Sym;
 
 #[tactic(auto, unfolding(crate::specs::Reading::null_action))]
 fn null_action(text: &Text, rest: &Rest) -> Result<usize, DdlError>
@@ -100,7 +101,7 @@ fn target_names(
     ensures exact { Gives result (spec.target_names text.now rest.now) }
     ensures within { IfOk result (λ x. x.1 ≤ length rest.now) }
 {
-    if !at_open(rest) {
+    if !at_mark(rest, Sym::Open) {
         return Ok((None, 0));
     }
     let (all, n) = names(alloc, text, rest)?;

@@ -11,13 +11,9 @@ ghost use Rattle.wt_front.specs.Giving.{Gives, Adds, is_joint};
 use std::alloc::Global;
 use wt_ast::{ColumnName, ColumnNames, CondKind, Condition, FromPart, Item, Items, Query, Scalar};
 use wt_front::QueryError;
-use wt_front::front::{
-    after, at_and, at_between, at_close, at_comma, at_end, at_from, at_in, at_is, at_join_words,
-    at_name, at_not, at_on, at_open, at_or, at_select, at_where, expect, kind, no, no_end, no_join,
-    no_join_or_end, no_statement, place,
-};
+use wt_front::front::{at_join_words, expect, no, no_end, no_join, no_join_or_end, no_statement};
 use wt_grammar::QueryFault;
-use wt_lex::Word;
+use wt_lex::{Sym, Word};
 use wt_parts::comparisons::{
     after_not, all_or_one, any_or_one, between, compared, is_part, negation, values,
 };
@@ -27,6 +23,7 @@ use wt_parts::sources::{
     derived_columns, derived_from, derived_name, join_words, joined_from, listed_from, opens_tuple,
     quantifier, table_part,
 };
+use wt_reading::front::{after, at_end, at_key, at_mark, at_name, kind, place};
 use wt_reading::{Kind, Lexeme};
 
 // Whether the word between the parts of a run stands here.
@@ -35,8 +32,8 @@ fn at_joint(word: Word, ts: &[Lexeme]) -> bool
     ensures some { result ≡ true → 0 < length ts.now }
 {
     match word {
-        Word::And => at_and(ts),
-        Word::Or => at_or(ts),
+        Word::And => at_key(ts, Word::And),
+        Word::Or => at_key(ts, Word::Or),
         _ => false,
     }
 }
@@ -131,7 +128,7 @@ fn neg(
     ensures exact { Gives condition_tree result (spec.neg end bytes.now (spec.nest end bytes.now levels) ts.now) }
     ensures within { IfOk result (λ x. x.1 ≤ length ts.now) }
 {
-    if !at_not(ts) {
+    if !at_key(ts, Word::Not) {
         return basic(alloc, bytes, ts, end, levels);
     }
     if levels == 0 {
@@ -153,13 +150,13 @@ fn basic(
     ensures exact { Gives condition_tree result (spec.basic end bytes.now (spec.nest end bytes.now levels) ts.now) }
     ensures within { IfOk result (λ x. x.1 ≤ length ts.now) }
 {
-    if !at_open(ts) {
+    if !at_mark(ts, Sym::Open) {
         let (a, n) = operand(alloc, bytes, ts, end)?;
         let (c, m) = after_operand(alloc, bytes, place(ts, end), a, after(ts, n), end, levels)?;
         return Ok((c, n + m));
     }
     let inside = after(ts, 1);
-    if at_select(inside) {
+    if at_key(inside, Word::Select) {
         return Err(no(QueryFault::Subquery, ts, end));
     }
     if opens_tuple(ts) {
@@ -170,7 +167,7 @@ fn basic(
     }
     let (c, n) = cond(alloc, bytes, inside, end, levels - 1)?;
     let rest = after(inside, n);
-    let (_, m) = expect(at_close(rest), QueryFault::Syntax, rest, end)?;
+    let (_, m) = expect(at_mark(rest, Sym::Close), QueryFault::Syntax, rest, end)?;
     Ok((c, n + m + 1))
 }
 
@@ -189,15 +186,15 @@ fn after_operand(
     ensures within { IfOk result (λ x. x.1 ≤ length ts.now) }
 {
     let word = place(ts, end);
-    if at_between(ts) {
+    if at_key(ts, Word::Between) {
         let (c, n) = between(alloc, bytes, at, a, word, after(ts, 1), end)?;
         return Ok((c, n + 1));
     }
-    if at_not(ts) {
+    if at_key(ts, Word::Not) {
         let (c, n) = after_not(alloc, bytes, at, a, word, after(ts, 1), end, levels)?;
         return Ok((c, n + 1));
     }
-    if at_is(ts) {
+    if at_key(ts, Word::Is) {
         return match a {
             Scalar::Literal(_, _) => Err(no(QueryFault::Syntax, ts, end)),
             Scalar::Column(column) => {
@@ -206,7 +203,7 @@ fn after_operand(
             }
         };
     }
-    if at_in(ts) {
+    if at_key(ts, Word::In) {
         return match a {
             Scalar::Literal(_, _) => Err(no(QueryFault::Syntax, ts, end)),
             Scalar::Column(column) => {
@@ -234,10 +231,10 @@ fn in_part(
     ensures exact { Gives condition_tree result (spec.in_part end bytes.now (spec.nest end bytes.now levels) at column word ts.now) }
     ensures within { IfOk result (λ x. x.1 ≤ length ts.now) }
 {
-    if !at_open(ts) {
+    if !at_mark(ts, Sym::Open) {
         return Err(no(QueryFault::Syntax, ts, end));
     }
-    if !at_select(after(ts, 1)) {
+    if !at_key(after(ts, 1), Word::Select) {
         return values(alloc, bytes, at, column, word, ts, end, levels);
     }
     let mut columns = Vec::new(alloc);
@@ -311,8 +308,8 @@ fn after_tuple(
     ensures exact { Gives condition_tree result (spec.after_tuple end bytes.now (spec.nest end bytes.now levels) at columns.items ts.now) }
     ensures within { IfOk result (λ x. x.1 ≤ length ts.now) }
 {
-    if !at_in(ts) {
-        let is_query = at_open(after(ts, 2)) && at_select(after(ts, 3));
+    if !at_key(ts, Word::In) {
+        let is_query = at_mark(after(ts, 2), Sym::Open) && at_key(after(ts, 3), Word::Select);
         let fault = if is_query {
             QueryFault::NotInSubquery
         } else {
@@ -321,11 +318,11 @@ fn after_tuple(
         return Err(no(fault, ts, end));
     }
     let rest = after(ts, 1);
-    if !at_open(rest) {
+    if !at_mark(rest, Sym::Open) {
         return Err(no(QueryFault::Syntax, rest, end));
     }
     let select = after(ts, 2);
-    if !at_select(select) {
+    if !at_key(select, Word::Select) {
         return Err(no(QueryFault::Syntax, select, end));
     }
     let (c, n) = subquery(alloc, bytes, at, columns, place(ts, end), rest, end, levels)?;
@@ -362,7 +359,12 @@ fn query(
     let inside = after(ts, 1);
     let (query, n) = body(alloc, bytes, after(inside, 1), end, levels - 1)?;
     let rest = after(inside, 1 + n);
-    let (_, m) = expect(at_close(rest), no_query_end(&query, kind(rest)), rest, end)?;
+    let (_, m) = expect(
+        at_mark(rest, Sym::Close),
+        no_query_end(&query, kind(rest)),
+        rest,
+        end,
+    )?;
     Ok((query, n + m + 2))
 }
 
@@ -383,7 +385,7 @@ fn body(
     let rest = after(ts, d);
     let (items, n) = list::<Item>(alloc, bytes, rest, end)?;
     let rest = after(rest, n);
-    let (_, f) = expect(at_from(rest), QueryFault::Syntax, rest, end)?;
+    let (_, f) = expect(at_key(rest, Word::From), QueryFault::Syntax, rest, end)?;
     let rest = after(rest, f);
     let (from, m) = from_list(alloc, bytes, rest, end, levels)?;
     let (filter, k) = filter(alloc, bytes, after(rest, m), end, levels)?;
@@ -411,7 +413,7 @@ fn filter(
     ensures exact { Gives filter_tree result (spec.filter end bytes.now (spec.nest end bytes.now levels) ts.now) }
     ensures within { IfOk result (λ x. x.1 ≤ length ts.now) }
 {
-    if !at_where(ts) {
+    if !at_key(ts, Word::Where) {
         return Ok((None, 0));
     }
     let (c, n) = cond(alloc, bytes, after(ts, 1), end, levels)?;
@@ -433,11 +435,11 @@ fn primary(
     if at_name(ts) {
         return table_part(alloc, bytes, ts, end);
     }
-    if !at_open(ts) {
+    if !at_mark(ts, Sym::Open) {
         return Err(no(QueryFault::Syntax, ts, end));
     }
     let inside = after(ts, 1);
-    if at_select(inside) {
+    if at_key(inside, Word::Select) {
         return derived_part(alloc, bytes, ts, end, levels);
     }
     if levels == 0 {
@@ -445,7 +447,12 @@ fn primary(
     }
     let (part, n) = joined(alloc, bytes, true, inside, end, levels - 1)?;
     let rest = after(inside, n);
-    let (_, m) = expect(at_close(rest), no_join(true, kind(rest)), rest, end)?;
+    let (_, m) = expect(
+        at_mark(rest, Sym::Close),
+        no_join(true, kind(rest)),
+        rest,
+        end,
+    )?;
     Ok((part, n + m + 1))
 }
 
@@ -536,7 +543,12 @@ fn join(
     let (right, m) = primary(alloc, bytes, rest, end, levels)?;
     let rest = after(rest, m);
     let on_at = place(rest, end);
-    let (_, f) = expect(at_on(rest), no_join(inside, kind(rest)), rest, end)?;
+    let (_, f) = expect(
+        at_key(rest, Word::On),
+        no_join(inside, kind(rest)),
+        rest,
+        end,
+    )?;
     let (on, k) = cond(alloc, bytes, after(rest, f), end, levels)?;
     Ok((
         joined_from(alloc, word, left, right, on, on_at)?,
@@ -576,7 +588,7 @@ fn more_from(
 {
     let mut left = first;
     let mut at = 0;
-    'parts: while at_comma(after(ts, at)) {
+    'parts: while at_mark(after(ts, at), Sym::Comma) {
         let (wider, m) = listed_part(alloc, bytes, left, after(ts, at), end, levels)?;
         left = wider;
         at += m;
@@ -614,7 +626,7 @@ pub(crate) fn statement(
 ) -> Result<(Query, usize), QueryError>
     ensures exact { Gives query_tree result (spec.statement end bytes.now ts.now) }
 {
-    if !at_select(ts) {
+    if !at_key(ts, Word::Select) {
         return Err(no(no_statement(kind(ts)), ts, end));
     }
     let inside = after(ts, 1);

@@ -10,12 +10,11 @@ use crate::parts::operand;
 use std::alloc::Global;
 use wt_ast::{CmpWord, ColumnName, CondKind, Condition, Conditions, Scalar};
 use wt_front::QueryError;
-use wt_front::front::{
-    after, at_and, at_between, at_in, at_not, at_null, at_open, at_select, cmp_of, expect, kind,
-    no, no_negated, place,
-};
+use wt_front::front::{cmp_of, expect, no, no_negated};
 use wt_grammar::QueryFault;
+use wt_lex::{Sym, Word};
 use wt_reading::Lexeme;
+use wt_reading::front::{after, at_key, at_mark, kind, place};
 use wt_value::{Value, Values, WantOfMemory};
 
 fn and_of(alloc: Global, at: u32, parts: Vec<Condition>) -> Result<Condition, WantOfMemory>
@@ -126,7 +125,7 @@ pub fn between(
 {
     let (low, n) = operand(alloc, bytes, ts, end)?;
     let rest = after(ts, n);
-    let (_, m) = expect(at_and(rest), QueryFault::Syntax, rest, end)?;
+    let (_, m) = expect(at_key(rest, Word::And), QueryFault::Syntax, rest, end)?;
     let rest = after(rest, m);
     let (high, k) = operand(alloc, bytes, rest, end)?;
     Ok((between_of(alloc, at, a, low, high, word)?, n + m + k))
@@ -143,13 +142,13 @@ pub fn is_part(
     ensures exact { Gives condition_tree result (spec.is_part end at column ts.now) }
     ensures within { IfOk result (λ x. x.1 ≤ length ts.now) }
 {
-    if at_not(ts) {
+    if at_key(ts, Word::Not) {
         let rest = after(ts, 1);
-        let (_, n) = expect(at_null(rest), QueryFault::Syntax, rest, end)?;
+        let (_, n) = expect(at_key(rest, Word::Null), QueryFault::Syntax, rest, end)?;
         let kind = CondKind::IsNotNull(column);
         return Ok((Condition { at, kind }, n + 1));
     }
-    let (_, n) = expect(at_null(ts), QueryFault::Syntax, ts, end)?;
+    let (_, n) = expect(at_key(ts, Word::Null), QueryFault::Syntax, ts, end)?;
     let kind = CondKind::IsNull(column);
     Ok((Condition { at, kind }, n))
 }
@@ -191,10 +190,10 @@ fn not_in_part(
     ensures exact { Gives condition_tree result (spec.not_in_part end bytes.now (spec.nest end bytes.now levels) at column not_at word ts.now) }
     ensures within { IfOk result (λ x. x.1 ≤ length ts.now) }
 {
-    if !at_open(ts) {
+    if !at_mark(ts, Sym::Open) {
         return Err(no(QueryFault::Syntax, ts, end));
     }
-    if at_select(after(ts, 1)) {
+    if at_key(after(ts, 1), Word::Select) {
         return Err(QueryError::Refused(QueryFault::NotInSubquery, not_at));
     }
     let (list, n) = values(alloc, bytes, at, column, word, ts, end, levels)?;
@@ -217,11 +216,11 @@ pub fn after_not(
     ensures within { IfOk result (λ x. x.1 ≤ length ts.now) }
 {
     let word = place(ts, end);
-    if at_between(ts) {
+    if at_key(ts, Word::Between) {
         let (inner, n) = between(alloc, bytes, at, a, word, after(ts, 1), end)?;
         return Ok((negation(alloc, at, inner)?, n + 1));
     }
-    if !at_in(ts) {
+    if !at_key(ts, Word::In) {
         return Err(no(no_negated(kind(ts)), ts, end));
     }
     match a {

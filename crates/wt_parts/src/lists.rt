@@ -10,9 +10,11 @@ use crate::parts::{column, item, literal, name};
 use std::alloc::Global;
 use wt_ast::{ColumnName, Item};
 use wt_front::QueryError;
-use wt_front::front::{after, at_close, at_comma, expect, no};
+use wt_front::front::{expect, no};
 use wt_grammar::QueryFault;
+use wt_lex::Sym;
 use wt_reading::Lexeme;
+use wt_reading::front::{after, at_mark};
 use wt_value::{Name, Value};
 
 /// What a list is made of, and how it is read from the front of tokens.
@@ -110,7 +112,7 @@ fn more<T: Part>(
     ensures within { IfOk result (λ n. n ≤ length ts.now) }
 {
     let mut at = 0;
-    'parts: while at_comma(after(ts, at)) {
+    'parts: while at_mark(after(ts, at), Sym::Comma) {
         let (part, n) = T::read(alloc, bytes, after(ts, at + 1), end)?;
         all.push(part)?;
         at += n + 1;
@@ -137,6 +139,6 @@ pub fn listed<T: Part>(
     let inside = after(ts, 1);
     let (parts, n) = list(alloc, bytes, inside, end)?;
     let rest = after(inside, n);
-    let (_, m) = expect(at_close(rest), QueryFault::Syntax, rest, end)?;
+    let (_, m) = expect(at_mark(rest, Sym::Close), QueryFault::Syntax, rest, end)?;
     Ok((parts, n + m + 1))
 }

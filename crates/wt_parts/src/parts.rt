@@ -7,12 +7,10 @@ ghost use Rattle.wt_front.specs.Giving.{Gives, Adds};
 use std::alloc::Global;
 use wt_ast::{ColumnName, Item, Scalar};
 use wt_front::QueryError;
-use wt_front::front::{
-    after, at_as, at_close, at_comma, at_dot, at_name, at_open, at_star, beyond, expect, kind, no,
-    no_item, no_literal, no_operand, place,
-};
+use wt_front::front::{beyond, expect, no, no_item, no_literal, no_operand};
 use wt_grammar::QueryFault;
-use wt_lex::{LexFault, Sym, name_of, text_of};
+use wt_lex::{LexFault, Sym, Word, name_of, text_of};
+use wt_reading::front::{after, at_key, at_mark, at_name, kind, place};
 use wt_reading::{Kind, Lexeme};
 use wt_value::{Name, Text, Value, WantOfMemory};
 
@@ -51,7 +49,7 @@ pub fn name(
         return Err(no(QueryFault::Syntax, ts, end));
     }
     let rest = after(ts, 1);
-    if at_open(rest) {
+    if at_mark(rest, Sym::Open) {
         return Err(no(QueryFault::Function, rest, end));
     }
     Ok((name_at(alloc, bytes, ts)?, 1))
@@ -71,7 +69,7 @@ pub fn column(
         return Err(no(no_operand(kind(ts), kind(after(ts, 1))), ts, end));
     }
     let at = place(ts, end);
-    if at_dot(after(ts, 1)) {
+    if at_mark(after(ts, 1), Sym::Dot) {
         let (name, n) = name(alloc, bytes, after(ts, 2), end)?;
         let table = Some(name_at(alloc, bytes, ts)?);
         return Ok((ColumnName { table, name, at }, n + 2));
@@ -192,7 +190,7 @@ pub fn alias(
     ensures exact { Gives (λ x. x) result (spec.alias end bytes.now ts.now) }
     ensures within { IfOk result (λ x. x.1 ≤ length ts.now) }
 {
-    if at_as(ts) {
+    if at_key(ts, Word::As) {
         let rest = after(ts, 1);
         let (name, n) = name(alloc, bytes, rest, end)?;
         return Ok((Some((name, place(rest, end))), n + 1));
@@ -225,13 +223,13 @@ fn item_front(
     ensures within { IfOk result (λ x. x.1 ≤ length ts.now) }
 {
     let at = place(ts, end);
-    if at_star(ts) {
+    if at_mark(ts, Sym::Star) {
         return Ok((Item::Star { at }, 1));
     }
     if !at_name(ts) {
         return Err(no(no_item(kind(ts), kind(after(ts, 1))), ts, end));
     }
-    if at_dot(after(ts, 1)) && at_star(after(ts, 2)) {
+    if at_mark(after(ts, 1), Sym::Dot) && at_mark(after(ts, 2), Sym::Star) {
         let alias = name_at(alloc, bytes, ts)?;
         return Ok((Item::AllOf { alias, at }, 3));
     }

@@ -12,18 +12,17 @@ use crate::parts::{alias, name, name_at, name_only};
 use std::alloc::Global;
 use wt_ast::{Condition, FromPart, Query};
 use wt_front::QueryError;
-use wt_front::front::{
-    after, at_all, at_as, at_close, at_comma, at_distinct, at_dot, at_in, at_inner, at_join,
-    at_left, at_name, at_not, at_open, at_outer, expect, no, place,
-};
+use wt_front::front::{expect, no};
 use wt_grammar::{JoinKind, QueryFault};
+use wt_lex::{Sym, Word};
 use wt_reading::Lexeme;
+use wt_reading::front::{after, at_key, at_mark, at_name, place};
 use wt_value::{Name, Names, WantOfMemory};
 
 fn in_follows(ts: &[Lexeme]) -> bool
     ensures { result ≡ spec.in_follows ts.now }
 {
-    at_in(ts) || (at_not(ts) && at_in(after(ts, 1)))
+    at_key(ts, Word::In) || (at_key(ts, Word::Not) && at_key(after(ts, 1), Word::In))
 }
 
 // How many tokens the column at the front has, if one stands there.
@@ -33,7 +32,7 @@ fn column_front(ts: &[Lexeme]) -> Option<usize>
 {
     if !at_name(ts) {
         None
-    } else if !at_dot(after(ts, 1)) {
+    } else if !at_mark(after(ts, 1), Sym::Dot) {
         Some(1)
     } else if at_name(after(ts, 2)) {
         Some(3)
@@ -48,7 +47,7 @@ fn columns_front(ts: &[Lexeme]) -> Option<usize>
     ensures within { IfSome result (λ n. n ≤ length ts.now) }
 {
     let mut at = column_front(ts)?;
-    'columns: while at_comma(after(ts, at)) {
+    'columns: while at_mark(after(ts, at), Sym::Comma) {
         let n = column_front(after(ts, at + 1))?;
         at += n + 1;
     }
@@ -65,7 +64,7 @@ pub fn opens_tuple(ts: &[Lexeme]) -> bool
         None => false,
         Some(n) => {
             let rest = after(inside, n);
-            at_close(rest) && in_follows(after(rest, 1))
+            at_mark(rest, Sym::Close) && in_follows(after(rest, 1))
         }
     }
 }
@@ -97,7 +96,7 @@ pub fn derived_name(
     ensures exact { Gives (λ x. x) result (spec.derived_name end bytes.now ts.now) }
     ensures within { IfOk result (λ x. x.1 ≤ length ts.now) }
 {
-    if !at_as(ts) {
+    if !at_key(ts, Word::As) {
         return bare_name(alloc, bytes, ts, end);
     }
     let (name, n) = bare_name(alloc, bytes, after(ts, 1), end)?;
@@ -116,7 +115,7 @@ pub fn derived_columns(
     ensures exact { Gives (λ x. x) result (spec.columns end bytes.now (spec.nest end bytes.now levels) ts.now) }
     ensures within { IfOk result (λ x. x.1 ≤ length ts.now) }
 {
-    if !at_open(ts) {
+    if !at_mark(ts, Sym::Open) {
         return Ok((None, 0));
     }
     let (names, n) = listed::<Name>(alloc, bytes, ts, end, levels)?;
@@ -164,12 +163,12 @@ fn outer_join(kind: JoinKind, ts: &[Lexeme], end: u32) -> Result<(JoinKind, usiz
     ensures exact { Gives (λ x. x) result (spec.outer_join end kind ts.now) }
     ensures within { IfOk result (λ x. x.1 ≤ length ts.now) }
 {
-    if !at_outer(ts) {
-        let (_, n) = expect(at_join(ts), QueryFault::Syntax, ts, end)?;
+    if !at_key(ts, Word::Outer) {
+        let (_, n) = expect(at_key(ts, Word::Join), QueryFault::Syntax, ts, end)?;
         return Ok((kind, n));
     }
     let rest = after(ts, 1);
-    let (_, n) = expect(at_join(rest), QueryFault::Syntax, rest, end)?;
+    let (_, n) = expect(at_key(rest, Word::Join), QueryFault::Syntax, rest, end)?;
     Ok((kind, n + 1))
 }
 
@@ -180,15 +179,15 @@ pub fn join_words(ts: &[Lexeme], end: u32) -> Result<(JoinKind, usize), QueryErr
     ensures exact { Gives (λ x. x) result (spec.join_words end ts.now) }
     ensures within { IfOk result (λ x. (1 ≤ x.1) × (x.1 ≤ length ts.now)) }
 {
-    if at_join(ts) {
+    if at_key(ts, Word::Join) {
         return Ok((JoinKind::Inner, 1));
     }
     let rest = after(ts, 1);
-    if at_inner(ts) {
-        let (_, n) = expect(at_join(rest), QueryFault::Syntax, rest, end)?;
+    if at_key(ts, Word::Inner) {
+        let (_, n) = expect(at_key(rest, Word::Join), QueryFault::Syntax, rest, end)?;
         return Ok((JoinKind::Inner, n + 1));
     }
-    let kind = if at_left(ts) {
+    let kind = if at_key(ts, Word::Left) {
         JoinKind::Left
     } else {
         JoinKind::Right
@@ -203,9 +202,9 @@ pub fn quantifier(ts: &[Lexeme]) -> (bool, usize)
     ensures exact { spec.quantifier ts.now ≡ Ok result }
     ensures within { result.1 ≤ length ts.now }
 {
-    if at_distinct(ts) {
+    if at_key(ts, Word::Distinct) {
         (true, 1)
-    } else if at_all(ts) {
+    } else if at_key(ts, Word::All) {
         (false, 1)
     } else {
         (false, 0)

@@ -1,4 +1,5 @@
 pub mod Complete
 pub mod Inversions
+pub mod OneKind
 pub mod Loops
 pub mod Took

@@ -1,5 +1,8 @@
 -- Tokens as a grammar sees them.
-use Rattle.std.specs.Prelude.{ℕ, Bool, true, false, List, [], ◌∷◌, Option, Some, None}
+use Rattle.std.specs.Prelude.{ℕ, ◌==◌, Bool, true, false, List, [], ◌∷◌, Option, Some, None}
+use denote.Enum.Bare.{sameb}
+use Rattle.wt_lex.specs.contracts.token.Sym as mark
+use Rattle.wt_lex.specs.contracts.words.Word as word
 use Rattle.wt_lex.specs.declared.token.Sym.TheVariants as sym
 use Rattle.wt_lex.specs.declared.token.Token.{Token}
 use Rattle.wt_lex.specs.declared.token.TokenKind.{TokenKind}
@@ -46,26 +49,31 @@ at test ts = test (kind ts)
 
 -- ---- tests on kinds
 
+-- the kinds are one
+abbrev pub is_kind : Kind → Kind → Bool
+is_kind End End = true
+is_kind (Key w) (Key v) = sameb word.the_type w v
+is_kind Name Name = true
+is_kind (Number n) (Number m) = n == m
+is_kind Text Text = true
+is_kind (Mark s) (Mark t) = sameb mark.the_type s t
+is_kind Odd Odd = true
+is_kind _ _ = false
+
 abbrev pub is_open : Kind → Bool
-is_open (Mark sym.Open) = true
-is_open _ = false
+is_open = is_kind (Mark sym.Open)
 
 abbrev pub is_close : Kind → Bool
-is_close (Mark sym.Close) = true
-is_close _ = false
+is_close = is_kind (Mark sym.Close)
 
 abbrev pub is_comma : Kind → Bool
-is_comma (Mark sym.Comma) = true
-is_comma _ = false
+is_comma = is_kind (Mark sym.Comma)
 
 abbrev pub is_semi : Kind → Bool
-is_semi (Mark sym.Semi) = true
-is_semi _ = false
+is_semi = is_kind (Mark sym.Semi)
 
 abbrev pub is_name : Kind → Bool
-is_name Name = true
-is_name _ = false
+is_name = is_kind Name
 
 abbrev pub is_end : Kind → Bool
-is_end End = true
-is_end _ = false
+is_end = is_kind End

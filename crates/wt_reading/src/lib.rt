@@ -2,6 +2,7 @@
 //! the parts of a sentence are. The definitions stand in `specs/`, the laws that every reading has in `proofs/`.
 #![tactic(auto)]
 
+pub mod front;
 mod lexeme;
 
 pub use lexeme::{Kind, Lexeme, lexeme_of};

@@ -85,12 +85,12 @@ module _ (end : ℕ) (bytes : List ℕ) where
     where
       by : is_name (kind ts) ≡ true → ((is_dot (kind (drop 1 ts)) ≡ true) × (passes behind_dot (drop 1 (drop 1 ts)) ≡ true)) ⊎ Closes (kind (drop 1 ts)) → ColumnCloses ts
       by is (inr closes) =
-          let plain = closes_plain _ closes in
+          let plain = closes_plain (kind (drop 1 ts)) closes in
           (record { table = None; name = name_at bytes ts; at = place end ts }, 1, rw (is, plain.not_dot, plain.not_open) refl, closes)
       by is (inl (dot, h2)) =
           let (named, h3) = dot_name (drop 1 (drop 1 ts)) h2 in
           let closes = column_goes (drop 1 (drop 1 (drop 1 ts))) h3 in
-          let plain = closes_plain _ closes in
+          let plain = closes_plain (kind (drop 1 (drop 1 (drop 1 ts)))) closes in
           let two : drop 1 (drop 1 ts) ≡ drop 2 ts = drop-drop 1 1 ts in
           let three : drop 1 (drop 2 ts) ≡ drop 3 ts = drop-drop 1 2 ts in
           let named2 : is_name (kind (drop 2 ts)) ≡ true = ap (λ l. is_name (kind l)) (sym two) ∙ named in

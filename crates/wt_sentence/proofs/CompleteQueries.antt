@@ -354,8 +354,8 @@ module _ (end : ℕ) (bytes : List ℕ) where
     primary_front : (f : FromTree) (a rest : Tokens) → spec.Primary end bytes d f a → is_select (kind (a ++ rest)) ≡ false
     primary_front f a rest (inl (n, at, o, (b, l, e, (t, e1, (is, w, w1)), q), fe)) = ap (λ z. is_select (kind (z ++ rest))) (e ∙ ap (λ z. z ++ l) e1) ∙ ap is_select (name_is t.kind is)
     primary_front f a rest (inr (inl (q, n, at, o, (b, l, e, p, r), fe))) =
-        ap (λ z. is_select (kind z)) (ap (λ z. z ++ rest) e ∙ append_assoc b l rest) ∙ ap is_select (open_is _ (below.queries_open q b p (l ++ rest)).0)
-    primary_front f a rest (inr (inr p)) = ap is_select (open_is _ (below.froms_open f a p rest).0)
+        ap (λ z. is_select (kind z)) (ap (λ z. z ++ rest) e ∙ append_assoc b l rest) ∙ ap is_select (open_is (kind (b ++ (l ++ rest))) (below.queries_open q b p (l ++ rest)).0)
+    primary_front f a rest (inr (inr p)) = ap is_select (open_is (kind (a ++ rest)) (below.froms_open f a p rest).0)
 
     -- the word JOIN, and what it makes
     join_word : (k : JoinKind) (l rest : Tokens) → Is is_join l → followed (l ++ rest) (expect (at is_join) (refusal end syntax) (l ++ rest)) (λ _ r. Ok (k, 0)) ≡ Ok (k, length l)

@@ -5,6 +5,7 @@ use Rattle.wt_ast.specs.declared.tree.CmpWord.{CmpWord}
 use Rattle.wt_reading.specs.declared.lexeme.Kind.{Kind}
 use Rattle.wt_reading.specs.declared.lexeme.Kind.TheVariants.{End, Key, Name, Mark}
 use Rattle.wt_lex.specs.declared.words.Word.TheVariants as word
+use Rattle.wt_reading.proofs.OneKind.{kind_is}
 use Rattle.wt_reading.specs.Lexemes.{is_open, is_close, is_comma, is_name}
 use Rattle.wt_grammar.specs.Kinds.{is_and, is_or, is_not, is_select, is_distinct, is_all, is_from, is_where, is_between, is_is, is_null_word, is_in, is_as, is_inner, is_left, is_right, is_outer, is_join, is_on, is_dot, is_star, begins_join}
 use Rattle.wt_grammar.specs.Refusals.{beyond}
@@ -12,104 +13,79 @@ use Rattle.wt_sentence.proofs.Stages.{next_stage, behind_name, behind_column}
 use Rattle.wt_grammar.specs.Reading.{cmp_of}
 
 pub and_is : (k : Kind) → is_and k ≡ true → k ≡ Key word.And
-and_is (Key word.And) h = refl
-and_is _ h = absurd cc
+and_is k h = kind_is (Key word.And) k h
 
 pub or_is : (k : Kind) → is_or k ≡ true → k ≡ Key word.Or
-or_is (Key word.Or) h = refl
-or_is _ h = absurd cc
+or_is k h = kind_is (Key word.Or) k h
 
 pub not_is : (k : Kind) → is_not k ≡ true → k ≡ Key word.Not
-not_is (Key word.Not) h = refl
-not_is _ h = absurd cc
+not_is k h = kind_is (Key word.Not) k h
 
 pub select_is : (k : Kind) → is_select k ≡ true → k ≡ Key word.Select
-select_is (Key word.Select) h = refl
-select_is _ h = absurd cc
+select_is k h = kind_is (Key word.Select) k h
 
 pub distinct_is : (k : Kind) → is_distinct k ≡ true → k ≡ Key word.Distinct
-distinct_is (Key word.Distinct) h = refl
-distinct_is _ h = absurd cc
+distinct_is k h = kind_is (Key word.Distinct) k h
 
 pub all_is : (k : Kind) → is_all k ≡ true → k ≡ Key word.All
-all_is (Key word.All) h = refl
-all_is _ h = absurd cc
+all_is k h = kind_is (Key word.All) k h
 
 pub from_is : (k : Kind) → is_from k ≡ true → k ≡ Key word.From
-from_is (Key word.From) h = refl
-from_is _ h = absurd cc
+from_is k h = kind_is (Key word.From) k h
 
 pub where_is : (k : Kind) → is_where k ≡ true → k ≡ Key word.Where
-where_is (Key word.Where) h = refl
-where_is _ h = absurd cc
+where_is k h = kind_is (Key word.Where) k h
 
 pub between_is : (k : Kind) → is_between k ≡ true → k ≡ Key word.Between
-between_is (Key word.Between) h = refl
-between_is _ h = absurd cc
+between_is k h = kind_is (Key word.Between) k h
 
 pub in_is_word : (k : Kind) → is_is k ≡ true → k ≡ Key word.Is
-in_is_word (Key word.Is) h = refl
-in_is_word _ h = absurd cc
+in_is_word k h = kind_is (Key word.Is) k h
 
 pub null_word_is : (k : Kind) → is_null_word k ≡ true → k ≡ Key word.Null
-null_word_is (Key word.Null) h = refl
-null_word_is _ h = absurd cc
+null_word_is k h = kind_is (Key word.Null) k h
 
 pub in_is : (k : Kind) → is_in k ≡ true → k ≡ Key word.In
-in_is (Key word.In) h = refl
-in_is _ h = absurd cc
+in_is k h = kind_is (Key word.In) k h
 
 pub as_is : (k : Kind) → is_as k ≡ true → k ≡ Key word.As
-as_is (Key word.As) h = refl
-as_is _ h = absurd cc
+as_is k h = kind_is (Key word.As) k h
 
 pub inner_is : (k : Kind) → is_inner k ≡ true → k ≡ Key word.Inner
-inner_is (Key word.Inner) h = refl
-inner_is _ h = absurd cc
+inner_is k h = kind_is (Key word.Inner) k h
 
 pub left_is : (k : Kind) → is_left k ≡ true → k ≡ Key word.Left
-left_is (Key word.Left) h = refl
-left_is _ h = absurd cc
+left_is k h = kind_is (Key word.Left) k h
 
 pub right_is : (k : Kind) → is_right k ≡ true → k ≡ Key word.Right
-right_is (Key word.Right) h = refl
-right_is _ h = absurd cc
+right_is k h = kind_is (Key word.Right) k h
 
 pub outer_is : (k : Kind) → is_outer k ≡ true → k ≡ Key word.Outer
-outer_is (Key word.Outer) h = refl
-outer_is _ h = absurd cc
+outer_is k h = kind_is (Key word.Outer) k h
 
 pub join_is : (k : Kind) → is_join k ≡ true → k ≡ Key word.Join
-join_is (Key word.Join) h = refl
-join_is _ h = absurd cc
+join_is k h = kind_is (Key word.Join) k h
 
 pub on_is : (k : Kind) → is_on k ≡ true → k ≡ Key word.On
-on_is (Key word.On) h = refl
-on_is _ h = absurd cc
+on_is k h = kind_is (Key word.On) k h
 
 pub open_is : (k : Kind) → is_open k ≡ true → k ≡ Mark sym.Open
-open_is (Mark sym.Open) h = refl
-open_is _ h = absurd cc
+open_is k h = kind_is (Mark sym.Open) k h
 
 pub close_is : (k : Kind) → is_close k ≡ true → k ≡ Mark sym.Close
-close_is (Mark sym.Close) h = refl
-close_is _ h = absurd cc
+close_is k h = kind_is (Mark sym.Close) k h
 
 pub comma_is : (k : Kind) → is_comma k ≡ true → k ≡ Mark sym.Comma
-comma_is (Mark sym.Comma) h = refl
-comma_is _ h = absurd cc
+comma_is k h = kind_is (Mark sym.Comma) k h
 
 pub dot_is : (k : Kind) → is_dot k ≡ true → k ≡ Mark sym.Dot
-dot_is (Mark sym.Dot) h = refl
-dot_is _ h = absurd cc
+dot_is k h = kind_is (Mark sym.Dot) k h
 
 pub star_is : (k : Kind) → is_star k ≡ true → k ≡ Mark sym.Star
-star_is (Mark sym.Star) h = refl
-star_is _ h = absurd cc
+star_is k h = kind_is (Mark sym.Star) k h
 
 pub name_is : (k : Kind) → is_name k ≡ true → k ≡ Name
-name_is Name h = refl
-name_is _ h = absurd cc
+name_is k h = kind_is Name k h
 
 -- a join that begins with no JOIN and no INNER begins with LEFT or RIGHT
 pub right_begins : (k : Kind) → begins_join k ≡ true → is_join k ≡ false → is_inner k ≡ false → is_left k ≡ false → is_right k ≡ true

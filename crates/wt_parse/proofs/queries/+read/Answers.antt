@@ -89,15 +89,15 @@ joins-returns-clause-exact t c =
 
 pub more_from-returns-in_err-wider-clause-exact : goal.more_from-returns-in_err-wider-clause-exact
 more_from-returns-in_err-wider-clause-exact t c =
-    let words = ap (λ l. is_comma (kind l)) (sym c.after.ensures) ∙ sym c.at_comma.ensures.value ∙ c.parts-test.true in
+    let words = ap (λ l. is_comma (kind l)) (sym c.after.ensures) ∙ sym c.at_mark.ensures.value ∙ c.parts-test.true in
     gives_exit from_tree from_tree c.in_err-wider.field-0.0 c.from_residual.result (spec.listed_part c.args.end c.args.bytes.now (spec.nest c.args.end c.args.bytes.now c.args.levels) (from_tree c.parts.left) c.after-in-parts.result.now) _ c.from_residual.ensures.1 c.in_err-wider.ensures.exact
     (λ f h. turn_fails (at is_comma) (spec.listed_part c.args.end c.args.bytes.now (spec.nest c.args.end c.args.bytes.now c.args.levels)) (there is_comma refl) (from_tree c.parts.left) c.parts.at c.args.ts.now f _ c.parts.invariant.exact words
     (ap (spec.listed_part c.args.end c.args.bytes.now (spec.nest c.args.end c.args.bytes.now c.args.levels) (from_tree c.parts.left)) (sym c.after-in-parts.ensures) ∙ h))
 
 pub more_from-parts-preserved : goal.more_from-parts-preserved
 more_from-parts-preserved t c =
-    let words = ap (λ l. is_comma (kind l)) (sym c.after.ensures) ∙ sym c.at_comma.ensures.value ∙ c.parts-test.true in
-    let some = c.at_comma.ensures.some c.parts-test.true in
+    let words = ap (λ l. is_comma (kind l)) (sym c.after.ensures) ∙ sym c.at_mark.ensures.value ∙ c.parts-test.true in
+    let some = c.at_mark.ensures.some c.parts-test.true in
     let here = ap length c.after.ensures ∙ length-drop c.parts.at c.args.ts.now in
     let rest = ap length c.after-in-parts.ensures ∙ length-drop c.parts.at c.args.ts.now in
     record {
@@ -108,5 +108,5 @@ more_from-parts-preserved t c =
 
 pub more_from-returns-clause-exact : goal.more_from-returns-clause-exact
 more_from-returns-clause-exact t c =
-    let none = ap (λ l. is_comma (kind l)) (sym c.after.ensures) ∙ sym c.at_comma.ensures.value ∙ c.parts-test.false in
+    let none = ap (λ l. is_comma (kind l)) (sym c.after.ensures) ∙ sym c.at_mark.ensures.value ∙ c.parts-test.false in
     turn_stops (at is_comma) (spec.listed_part c.args.end c.args.bytes.now (spec.nest c.args.end c.args.bytes.now c.args.levels)) (there is_comma refl) (from_tree c.parts.left) c.parts.at c.args.ts.now _ c.parts.invariant.exact none

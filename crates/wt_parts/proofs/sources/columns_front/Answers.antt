@@ -17,15 +17,15 @@ columns-init c = record {
 
 pub returns-in_err-n-clause-exact : goal.returns-in_err-n-clause-exact
 returns-in_err-n-clause-exact c =
-    let comma = ap (λ l. is_comma (kind l)) (sym c.after.ensures) ∙ sym c.at_comma.ensures.value ∙ c.columns-test.true in
+    let comma = ap (λ l. is_comma (kind l)) (sym c.after.ensures) ∙ sym c.at_mark.ensures.value ∙ c.columns-test.true in
     c.from_residual-in_err-n.ensures
     ∙ next_fails column_front c.columns.at c.args.ts.now (size_of (list column_front c.args.ts.now)) c.columns.invariant.exact comma
     (ap (λ l. size_of (column_front l)) (sym c.after-in-columns.ensures) ∙ sym c.in_err-n.ensures.exact)
 
 pub columns-preserved : goal.columns-preserved
 columns-preserved c =
-    let comma = ap (λ l. is_comma (kind l)) (sym c.after.ensures) ∙ sym c.at_comma.ensures.value ∙ c.columns-test.true in
-    let some = c.at_comma.ensures.some c.columns-test.true in
+    let comma = ap (λ l. is_comma (kind l)) (sym c.after.ensures) ∙ sym c.at_mark.ensures.value ∙ c.columns-test.true in
+    let some = c.at_mark.ensures.some c.columns-test.true in
     let here = ap length c.after.ensures ∙ length-drop c.columns.at c.args.ts.now in
     let rest = ap length c.after-in-columns.ensures ∙ length-drop (c.columns.at + 1) c.args.ts.now in
     record {
@@ -36,5 +36,5 @@ columns-preserved c =
 
 pub returns-clause-exact : goal.returns-clause-exact
 returns-clause-exact c =
-    let none = ap (λ l. is_comma (kind l)) (sym c.after.ensures) ∙ sym c.at_comma.ensures.value ∙ c.columns-test.false in
+    let none = ap (λ l. is_comma (kind l)) (sym c.after.ensures) ∙ sym c.at_mark.ensures.value ∙ c.columns-test.false in
     next_stops column_front c.columns.at c.args.ts.now (size_of (list column_front c.args.ts.now)) c.columns.invariant.exact none

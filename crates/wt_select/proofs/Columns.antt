@@ -1,5 +1,5 @@
 -- The columns of FROM items: their names, those of one alias, and where these stand.
-use Rattle.std.proofs.Common.{◌≡◌, ℕ, zero, suc, ◌+◌, Bool, true, false, ◌||◌, not, cond, List, [], ◌∷◌, ◌++◌, map, length, length-append, filter, refl, sym, ap, ◌∙◌, arith}
+use Rattle.std.proofs.Common.{◌≡◌, ℕ, suc, ◌+◌, Bool, true, false, ◌||◌, not, cond, List, [], ◌∷◌, ◌++◌, map, length, length-append, filter, refl, sym, ap, ◌∙◌, arith}
 use Rattle.std.specs.Prelude.{flat_map}
 use Rattle.std.specs.List.{list_any}
 use Rattle.std.specs.Str.{bytes_eq}
@@ -9,7 +9,7 @@ use Rattle.wt_ast.specs.declared.tree.Item.TheVariants.{Star, AllOf, Column}
 use Rattle.wt_query_rows.specs.declared.scope.ScopeColumn.{ScopeColumn}
 use Rattle.wt_query_rows.specs.Scopes.{in_scope, is_of}
 use Rattle.wt_plan.specs.Regular.{upto, kind_at, kinds_at}
-use Rattle.wt_plan.proofs.Upto.{length_map, length_upto}
+use Rattle.wt_plan.proofs.Upto.{length_map}
 use Rattle.wt_query_plan.specs.Building.{places_where, item_places}
 use Rattle.wt_query_plan.specs.Faults.{is_empty, item_kinds}
 use Rattle.wt_resolve.specs.declared.lookup.ScopeItem.{ScopeItem}

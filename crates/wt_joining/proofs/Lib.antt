@@ -1,0 +1,4 @@
+pub mod Lists
+pub mod WritingLaws
+pub mod InLaws
+pub mod OneLaws

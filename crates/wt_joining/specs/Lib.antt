@@ -1,0 +1,5 @@
+pub mod Changes
+pub mod Ends
+pub mod ToIn
+pub mod ToOne
+pub mod Writing

@@ -1,5 +1,5 @@
 -- Where the columns of two operands together stand, and what an operand is.
-use Rattle.std.specs.Prelude.{◌≡◌, ℕ, ◌+◌, ◌<◌, List, ◌++◌, length, map}
+use Rattle.std.specs.Prelude.{ℕ, ◌+◌, ◌<◌, List, ◌++◌, length, map}
 use Rattle.std.specs.List.{All}
 use Rattle.wt_plan.specs.Tree.{PlanTree, plan_tree}
 use Rattle.wt_query_plan.specs.Building.{Conjunct, inner_of, left_of, right_of}

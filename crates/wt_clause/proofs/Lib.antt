@@ -1,0 +1,5 @@
+pub mod Clauses
+pub mod Commas
+pub mod Walks
+pub mod Finishing
+pub mod Joined

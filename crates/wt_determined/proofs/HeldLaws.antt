@@ -1,5 +1,5 @@
 -- What the pieces hold determines a variable.
-use Rattle.std.proofs.Common.{ℕ, ◌≡◌, ◌⊎◌, inl, inr, true, List, [], ◌∷◌, refl, sym, ap, ◌∙◌, subst}
+use Rattle.std.proofs.Common.{ℕ, ◌≡◌, inl, inr, true, List, [], ◌∷◌, refl, sym, ap, ◌∙◌, subst}
 use Rattle.wt_bag.specs.Choices.{At, Has}
 use Rattle.wt_symbol.specs.declared.head.PartCols.TheVariants.{Whole, List as Listed}
 use Rattle.wt_form.specs.declared.form.Expr.{Expr}
@@ -12,7 +12,7 @@ use Rattle.wt_facts.specs.declared.facts.Facts.{Facts}
 use Rattle.wt_facts.specs.Facts.{known_of}
 use Rattle.wt_not_null.proofs.Respects.{list_law, within_from, unique_entry, entry_unique}
 use Rattle.wt_determined.specs.Pieces.{ListOver, HasListOver}
-use Rattle.wt_determined.specs.Alone.{IsHeld, KeyHeld, SomeKeyHeld, RangeHeld}
+use Rattle.wt_determined.specs.Alone.{KeyHeld, SomeKeyHeld, RangeHeld}
 
 list_over : (K : Known) (u c : ℕ) (x : Expr) → ListOver K u c x → (d : ℕ) × (x ≡ Of u 0 (Listed d)) × (K.within c d ≡ true)
 list_over K u c (Of v i (Listed d)) h = (d, ap (λ w. Of w i (Listed d)) h.0 ∙ ap (λ w. Of u w (Listed d)) h.1, h.2)

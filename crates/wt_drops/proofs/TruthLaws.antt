@@ -1,5 +1,5 @@
 -- Deciding that a condition is true or false beside the others.
-use Rattle.std.proofs.Common.{ℕ, ◌≡◌, ◌⊎◌, ◌↔◌, inl, inr, IsTrue, Bool, true, false, List, [], ◌∷◌, map, take, Result, Ok, Err, sym, ap, ◌∙◌, subst}
+use Rattle.std.proofs.Common.{ℕ, ◌≡◌, ◌⊎◌, ◌↔◌, inl, inr, IsTrue, Bool, true, List, [], ◌∷◌, map, take, Result, Ok, Err, sym, ap, ◌∙◌, subst}
 use Rattle.std.specs.Prelude.{IfOk}
 use Rattle.wt_bag.specs.Choices.{At, drop_at}
 use Rattle.wt_symbol.specs.declared.head.PartCols.TheVariants.{Whole, List as Listed}

@@ -1,4 +1,4 @@
-use Rattle.std.proofs.Common.{rules, map, ◌≡◌, sym, subst, ◌∙◌, refl, true, false}
+use Rattle.std.proofs.Common.{rules, map, ◌≡◌, sym, subst, ◌∙◌, refl, true}
 use Rattle.wt_form.specs.Views.{terms_seen}
 use Rattle.wt_facts.specs.Facts.{known_of}
 use Rattle.wt_congruent.specs.Refs.{cond_behind, range_behind}

@@ -62,8 +62,7 @@ split_range (range_then s b) r a P p =
     let h = split_range b r a P p in
     let l = h.0 in
     let rest = ranges_append b (range_then r a) in
-    let up : suc (ranges_count b) ≡ 1 + ranges_count b = omega arith in
-    (
+    let up : suc (ranges_count b) ≡ 1 + ranges_count b = omega arith in (
       omega (arith, l),
       subst (λ n. At P n (s ∷ ranges_list rest)) up h.1,
       subst (λ n. ranges_from (drop_at n (s ∷ ranges_list rest)) ≡ range_then s (ranges_append b a)) up (ap (range_then s) h.2),

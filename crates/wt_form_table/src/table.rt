@@ -1,5 +1,5 @@
 //! The table.
-ghost use Rattle.std.specs.Prelude.{ℕ, ◌≡◌, List, IfOk, OnOk};
+ghost use Rattle.std.specs.Prelude.{ℕ, ◌≡◌, List, [], IfOk, OnOk};
 ghost use Rattle.wt_form.specs.Views.{form_seen, terms_seen, ranges_seen, range_seen, conds_seen, cond_seen};
 ghost use Rattle.wt_form_table.specs.Entries.{First, Goes, tables_of, value_of, columns_of};
 ghost use Rattle.wt_form_table.specs.declared.cell.Front.TheVariants.{Part as PartFront};
@@ -22,7 +22,9 @@ pub struct FormTable {
 
 impl FormTable {
     /// A table without entries.
-    pub fn new(alloc: Global) -> FormTable {
+    pub fn new(alloc: Global) -> FormTable
+        ensures { tables_of result ≡ record { values = []; tests = []; fronts = []; entries = [] } }
+    {
         FormTable {
             values: IndexSet::new(alloc),
             tests: IndexSet::new(alloc),

@@ -8,7 +8,7 @@ use Rattle.wt_ast.specs.Marks.{marks, marks_in_filter, marks_in_from, marks_in_c
 use Rattle.wt_query_bounds.specs.Bounds.{items_in, items_in_filter, items_in_from, items_in_cond, items_in_conds, conjuncts_in, conjuncts_in_filter, conjuncts_in_from, conjuncts_in_cond, conjuncts_in_conds}
 
 counted : (what : Marked) (xs ys : List Mark) → length (places what (xs ++ ys)) ≡ length (places what xs) + length (places what ys)
-counted what [] ys = refl
+counted what [] ys = omega arith
 counted what (m ∷ ms) ys = here (same m.what what) (counted what ms ys)
   where
     here : (b : Bool) → length (places what (ms ++ ys)) ≡ length (places what ms) + length (places what ys)

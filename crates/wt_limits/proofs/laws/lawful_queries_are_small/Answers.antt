@@ -1,5 +1,4 @@
 use Rattle.std.proofs.Common.{arith}
-use Rattle.wt_ast.specs.Lawful.{IsLawful}
 use Rattle.wt_limits.proofs.Marked.{items_marked, conjuncts_marked}
 use Rattle.wt_limits.proofs.laws.lawful_queries_are_small.Goals as goal
 

@@ -26,8 +26,10 @@ fn is_provable(alloc: Global, case: &Case) -> Result<Option<bool>, AllocError> {
     }
 }
 
-/// Pairs that are provable only where a Join is read either way round.
-static PROVABLE: [Case; 4] = [
+/// Pairs that are provable, all but the first only where a Join is read either way round. In the first
+/// a Join inside distinct rows becomes an In, and two terms become one.
+static PROVABLE: [Case; 5] = [
+    ("r0 r1 L12 P0 D", "r0 P0 D", "001", ""),
     (
         "r0 r1 I12 P0",
         "r1 P0",

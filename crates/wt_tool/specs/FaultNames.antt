@@ -6,6 +6,8 @@ use Rattle.wt_ddl.specs.declared.fault.DdlFault.{DdlFault}
 use Rattle.wt_ddl.specs.declared.fault.DdlFault.TheVariants as schema
 use Rattle.wt_grammar.specs.declared.fault.QueryFault.{QueryFault}
 use Rattle.wt_grammar.specs.declared.fault.QueryFault.TheVariants as query
+use Rattle.wt_query_plan.specs.declared.fault.BuildFault.{BuildFault}
+use Rattle.wt_query_plan.specs.declared.fault.BuildFault.TheVariants as build
 
 abbrev pub lexical_name : LexFault → List ℕ
 lexical_name lexical.NotText = codes "NotText"
@@ -59,3 +61,18 @@ query_name query.CommaJoin = codes "CommaJoin"
 query_name query.TooDeep = codes "TooDeep"
 query_name query.TooMany = codes "TooMany"
 query_name query.TooLong = codes "TooLong"
+
+abbrev pub build_name : BuildFault → List ℕ
+build_name build.UnknownTable = codes "UnknownTable"
+build_name build.DuplicateAlias = codes "DuplicateAlias"
+build_name build.ColumnListWidth = codes "ColumnListWidth"
+build_name build.UnknownColumn = codes "UnknownColumn"
+build_name build.CorrelatedColumn = codes "CorrelatedColumn"
+build_name build.AmbiguousColumn = codes "AmbiguousColumn"
+build_name build.TypeMismatch = codes "TypeMismatch"
+build_name build.ConditionWithoutColumn = codes "ConditionWithoutColumn"
+build_name build.InWidth = codes "InWidth"
+build_name build.OnLeftCondition = codes "OnLeftCondition"
+build_name build.OnMixedCondition = codes "OnMixedCondition"
+build_name build.NoJoinEquality = codes "NoJoinEquality"
+build_name build.TooWide = codes "TooWide"

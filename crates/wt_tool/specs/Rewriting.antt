@@ -1,5 +1,5 @@
 -- What `rewrite` answers.
-use Rattle.std.specs.Prelude.{◌≡◌, ℕ, List, [], ◌∷◌, ◌++◌, Bool, true, false, if◌then◌else◌, codes, map, Ok, Err, Some, Result}
+use Rattle.std.specs.Prelude.{◌≡◌, ℕ, List, [], ◌∷◌, ◌++◌, Bool, true, false, if◌then◌else◌, codes, map, Ok, Err, Some, None, Result}
 use Rattle.std.specs.Fmt.{decimal}
 use Rattle.std.specs.List.{flat_map, list_any}
 use Rattle.std.specs.Io.KnownBytes.{append_known}
@@ -11,11 +11,12 @@ use Rattle.wt_ddl.specs.Refusals as ddl
 use Rattle.wt_grammar.specs.Reading.{Refusal, refused, odd}
 use Rattle.wt_grammar.specs.Statements.{File, Statement, Answer, answer, begin, file_of}
 use Rattle.wt_lex.specs.declared.token.LexFault.{LexFault}
+use Rattle.wt_query_plan.specs.Faults.{Fault, query_fault}
 use Rattle.wt_schema.specs.declared.schema.Table.{Table}
 use Rattle.wt_tool.specs.declared.input.Input.{Input}
 use Rattle.wt_tool.specs.declared.input.Input.TheVariants.{Whole, TooLong}
 use Rattle.wt_tool.specs.declared.line.Line.{Line}
-use Rattle.wt_tool.specs.FaultNames.{lexical_name, schema_name, query_name}
+use Rattle.wt_tool.specs.FaultNames.{build_name, lexical_name, schema_name, query_name}
 use Rattle.wt_tool.specs.declared.stop.Stop.{Stop}
 use Rattle.wt_tool.specs.Outcomes.{Outcome, Stops}
 use Rattle.wt_tool.specs.Printing.{query_text}
@@ -49,10 +50,15 @@ too_long name = fault_at name 16777216 (codes "TooLong")
 abbrev pub refusal_line : List ℕ → ℕ → Line
 refusal_line kind at = record { text = codes "-- refused " ++ (kind ++ (codes " at " ++ (decimal at ++ 10 ∷ []))); refused = true }
 
+-- a statement that begins at this offset and is not printed: its first fault, where it has one
+abbrev pub unbuilt_line : ℕ → Fault → Line
+unbuilt_line at None = refusal_line (codes "NotBuilt") at
+unbuilt_line at (Some (fault, place)) = refusal_line (build_name fault) place
+
 -- a statement that begins at this offset, as it is read
 abbrev pub tree_line : List Table → ℕ → QueryTree → Line
 tree_line tables at tree =
-    if is_rewritable tables tree then record { text = ended (query_text (rewritten tree)); refused = false } else refusal_line (codes "NotBuilt") at
+    if is_rewritable tables tree then record { text = ended (query_text (rewritten tree)); refused = false } else unbuilt_line at (query_fault tables [] tree)
 
 abbrev pub refusal_name : Refusal → List ℕ
 refusal_name (refused fault) = query_name fault

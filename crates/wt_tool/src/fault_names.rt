@@ -5,6 +5,7 @@ ghost use Rattle.wt_tool.specs.FaultNames as spec;
 use wt_ddl::DdlFault;
 use wt_grammar::QueryFault;
 use wt_lex::LexFault;
+use wt_query_plan::BuildFault;
 
 pub(crate) fn lexical_name(fault: LexFault) -> &'static str
     ensures { result.now ≡ spec.lexical_name fault }
@@ -71,5 +72,25 @@ pub(crate) fn query_name(fault: QueryFault) -> &'static str
         QueryFault::TooDeep => "TooDeep",
         QueryFault::TooMany => "TooMany",
         QueryFault::TooLong => "TooLong",
+    }
+}
+
+pub(crate) fn build_name(fault: BuildFault) -> &'static str
+    ensures { result.now ≡ spec.build_name fault }
+{
+    match fault {
+        BuildFault::UnknownTable => "UnknownTable",
+        BuildFault::DuplicateAlias => "DuplicateAlias",
+        BuildFault::ColumnListWidth => "ColumnListWidth",
+        BuildFault::UnknownColumn => "UnknownColumn",
+        BuildFault::CorrelatedColumn => "CorrelatedColumn",
+        BuildFault::AmbiguousColumn => "AmbiguousColumn",
+        BuildFault::TypeMismatch => "TypeMismatch",
+        BuildFault::ConditionWithoutColumn => "ConditionWithoutColumn",
+        BuildFault::InWidth => "InWidth",
+        BuildFault::OnLeftCondition => "OnLeftCondition",
+        BuildFault::OnMixedCondition => "OnMixedCondition",
+        BuildFault::NoJoinEquality => "NoJoinEquality",
+        BuildFault::TooWide => "TooWide",
     }
 }

@@ -1,14 +1,20 @@
 //! The lines of statements.
 ghost use Rattle.std.specs.Prelude.{◌≡◌, ◌++◌, ◌∷◌, [], IfOk, OnOk, map, codes, string_bytes};
 ghost use Rattle.wt_ast.specs.Tree.{query_tree, from_tree};
+ghost use Rattle.wt_ast.specs.Lawful.{IsLawful};
+ghost use Rattle.wt_query_plan.specs.Faults.{query_fault};
 ghost use Rattle.wt_tool.specs.LineItems as items;
 ghost use Rattle.wt_tool.specs.Printing as printing;
 ghost use Rattle.wt_tool.specs.Queries as queries;
 ghost use Rattle.wt_tool.specs.Rewriting as spec;
 
+use crate::fault_names::build_name;
 use crate::form::is_rewritable;
 use std::alloc::{AllocError, Global};
 use wt_ast::{FromPart, Item, Query};
+use wt_build::plan_of;
+use wt_limits::lawful_queries_are_small;
+use wt_query_plan::BuildError;
 use wt_schema::Schema;
 use wt_value::Bytes;
 
@@ -81,6 +87,24 @@ pub(crate) fn refusal_line(alloc: Global, kind: &str, at: u32) -> Result<Line, A
     })
 }
 
+// The line of a statement that begins at this offset and is not printed: its first fault, where it has one.
+fn unbuilt_line(
+    alloc: Global,
+    schema: &Schema,
+    query: &Query,
+    at: u32,
+) -> Result<Line, AllocError>
+    requires { IsLawful (query_tree query.now) }
+    ensures { IfOk result (λ line. line ≡ spec.unbuilt_line at (query_fault schema.now.tables [] (query_tree query.now))) }
+{
+    lawful_queries_are_small();
+    match plan_of(alloc, schema, query) {
+        Ok(_) => refusal_line(alloc, "NotBuilt", at),
+        Err(BuildError::Refused(fault, place)) => refusal_line(alloc, build_name(fault), place),
+        Err(BuildError::Memory) => Err(AllocError),
+    }
+}
+
 /// The line of a statement that begins at this offset and was read as this query.
 pub(crate) fn query_line(
     alloc: Global,
@@ -88,6 +112,7 @@ pub(crate) fn query_line(
     query: &Query,
     at: u32,
 ) -> Result<Line, AllocError>
+    requires { IsLawful (query_tree query.now) }
     ensures { IfOk result (λ line. line ≡ spec.tree_line schema.now.tables at (query_tree query.now)) }
 {
     match &query.from {
@@ -95,6 +120,6 @@ pub(crate) fn query_line(
             text: Bytes::from_vec(text_of(alloc, query.items.as_slice(), name.as_bytes())?),
             refused: false,
         }),
-        _ => refusal_line(alloc, "NotBuilt", at),
+        _ => unbuilt_line(alloc, schema, query, at),
     }
 }

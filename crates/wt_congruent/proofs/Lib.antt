@@ -1,3 +1,5 @@
+pub mod Begins
 pub mod Pairing
+pub mod Shares
 pub mod Sizes
 pub mod Tells

@@ -7,9 +7,9 @@ use Rattle.wt_bag.proofs.HasLaws.{has_left, has_right, has_split, has_map, has_f
 use Rattle.wt_symbol.specs.declared.head.Part.{Part}
 use Rattle.wt_form.specs.declared.form.Expr.{Expr}
 use Rattle.wt_form.specs.Trees.{Terms, no_terms, term_then, Ranges, range_then, FormRange, distinct_of, Cond, is_in, not_in}
-use Rattle.wt_form.specs.Parts.{terms_count, ranges_at, conds_at, pieces_at, terms_without, ranges_list, conds_list}
+use Rattle.wt_form.specs.Parts.{terms_count, ranges_at, conds_at, pieces_at, terms_without}
 use Rattle.wt_form.specs.Known.{Known, heads_same}
-use Rattle.wt_form.specs.Congruent.{TermsSame, RangesSame, RangeSame, CondsSame, CondSame, expr_same, pieces_same}
+use Rattle.wt_form.specs.Congruent.{TermsSame, RangesSame, RangeSame, CondSame, expr_same}
 use Rattle.wt_form.specs.Views.{OneTerm, terms_list, terms_from}
 use Rattle.wt_congruent.specs.Refs.{TermIs}
 
@@ -217,16 +217,6 @@ pub whole_distinct : (K : Known) (holds : Bool) (r s : FormRange) (h h' : List P
 whole_distinct K holds r s h h' ts ts' us zs refs a b e o q t w =
     subst (λ k. (holds ≡ true) ↔ RangeSame K k s) (sym a) (subst (λ k. (holds ≡ true) ↔ RangeSame K (distinct_of h ts) k) (sym b)
     (with_fact holds (heads_same K h h' ≡ true) (TermsSame K ts us) e (whole_terms K holds ts us zs refs o q (subst (λ k. (holds ≡ true) ↔ TermsSame K k (terms_from zs)) t w))))
-
-pub term_hit : (K : Known) (t u : OneTerm) (ways : List (List ℕ)) (n : ℕ) (way ks ks' : List ℕ) (gs gs' : List FormRange) (ds ds' : List Cond) → n < length ways → way ≡ get_or ways n way → ks ≡ way → ks' ≡ way → gs ≡ gs' → gs' ≡ ranges_list u.ranges → ds ≡ ds' → ds' ≡ conds_list u.conds →
-    ((k : List ℕ) → (Has k ways ↔ RangesSame K k t.ranges gs)) → CondsSame K ks t.conds ds → pieces_same K ks' t.pieces u.pieces ≡ true → TermIs K t u
-term_hit K t u ways n way ks ks' gs gs' ds ds' l e k k' g g' d d' exact c p =
-    (way, subst (RangesSame K way t.ranges) (g ∙ g') ((exact way).0 (has_at ways n way l e)), subst (CondsSame K way t.conds) (d ∙ d') (subst (λ z. CondsSame K z t.conds ds) k c), subst (λ z. pieces_same K z t.pieces u.pieces ≡ true) k' p)
-
-pub term_none : (K : Known) (t u : OneTerm) (ways : List (List ℕ)) (n : ℕ) (gs gs' : List FormRange) → length ways ≤ n → gs ≡ gs' → gs' ≡ ranges_list u.ranges → ((k : List ℕ) → (Has k ways ↔ RangesSame K k t.ranges gs)) →
-    ((k : List ℕ) → Has k (take n ways) → (CondsSame K k t.conds (conds_list u.conds) × (pieces_same K k t.pieces u.pieces ≡ true)) → ⊥) → TermIs K t u → ⊥
-term_none K t u ways n gs gs' l g g' exact none h =
-    none h.0 (subst (Has h.0) (sym (take_all n ways l)) ((exact h.0).1 (subst (RangesSame K h.0 t.ranges) (sym (g ∙ g')) h.1))) (h.2, h.3)
 
 pub tails_are : {X : Type 0} (K : Known) (rs rs' : Ranges) (f : X → FormRange) (left fewer zs : List X) (j : ℕ) (tails : List (List ℕ)) → rs' ≡ rs → zs ≡ fewer → fewer ≡ drop_at j left →
     ((ks : List ℕ) → (Has ks tails ↔ RangesSame K ks rs' (map f zs))) → (ks : List ℕ) → (Has ks tails ↔ RangesSame K ks rs (drop_at j (map f left)))

@@ -7,11 +7,11 @@ use Rattle.wt_form.specs.Known.{Known}
 use Rattle.wt_form.specs.Congruent.{TermsSame, RangesSame, RangeSame, CondsSame, CondSame}
 use Rattle.wt_form.specs.Weights.{terms_size, ranges_size, range_size, conds_size, cond_size}
 
-abbrev summed : {X : Type 0} → (X → ℕ) → List X → ℕ
+abbrev pub summed : {X : Type 0} → (X → ℕ) → List X → ℕ
 summed f [] = 0
 summed f (x ∷ xs) = f x + summed f xs
 
-taken : {X : Type 0} (f : X → ℕ) (P : X → Type 0) (j : ℕ) (xs : List X) → At P j xs → (x : X) × P x × (summed f xs ≡ f x + summed f (drop_at j xs))
+pub taken : {X : Type 0} (f : X → ℕ) (P : X → Type 0) (j : ℕ) (xs : List X) → At P j xs → (x : X) × P x × (summed f xs ≡ f x + summed f (drop_at j xs))
 taken f P j [] h = absurd h
 taken f P zero (x ∷ xs) h = (x, h, refl)
 taken f P (suc j) (x ∷ xs) h = let r = taken f P j xs h in let e = r.2 in (r.0, r.1, omega (arith, e))

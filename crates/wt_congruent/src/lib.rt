@@ -1,8 +1,10 @@
 //! Whether two forms are congruent under a set.
 #![tactic(auto)]
 
+mod early;
 mod exprs;
 mod places;
+mod prints;
 mod refs;
 mod same;
 mod search;

@@ -1,5 +1,5 @@
 //! The places that variables take, one after another, among those that are left.
-ghost use Rattle.std.specs.Prelude.{◌≡◌, [], ◌∷◌, ◌++◌, OnOk};
+ghost use Rattle.std.specs.Prelude.{◌≡◌, [], ◌∷◌, ◌++◌, IfOk, OnOk};
 
 use smallvec::SmallVec;
 use std::alloc::{AllocError, Global};
@@ -53,4 +53,14 @@ impl Places {
     {
         self.items.as_slice()
     }
+}
+
+/// The places and one more.
+pub(crate) fn with_place(alloc: Global, ks: &[usize], j: usize) -> Result<Places, AllocError>
+    ensures { IfOk result (λ longer. longer ≡ ks.now ++ j ∷ []) }
+{
+    let mut longer = Places::new(alloc);
+    longer.extend(ks)?;
+    longer.push(j)?;
+    Ok(longer)
 }

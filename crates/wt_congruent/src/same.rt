@@ -5,13 +5,16 @@ ghost use Rattle.wt_form.specs.Congruent.{TermsSame, RangesSame, RangeSame, Cond
 ghost use Rattle.wt_form.specs.Views.{terms_seen, ranges_seen, range_seen, conds_seen, cond_seen, terms_from, term_seen};
 ghost use Rattle.wt_facts.specs.Facts.{known_of};
 ghost use Rattle.wt_congruent.specs.Refs.{term_behind, range_behind, cond_behind, TermIs};
+ghost use Rattle.wt_congruent.specs.Early.{GoesOn};
 
+use crate::early::may_go_on;
 use crate::exprs::{same_expr, same_head, same_pieces};
-use crate::places::Places;
+use crate::places::{Places, with_place};
+use crate::prints::term_print;
 use crate::refs::{cond_refs, range_refs, term_refs, without};
 use std::alloc::{AllocError, Global};
 use wt_facts::Facts;
-use wt_form::{Cond, Conds, FormRange, Ranges, Term, Terms};
+use wt_form::{Cond, Conds, Expr, FormRange, Ranges, Term, Terms};
 
 /// The place, and then each of the lists.
 fn push_first(
@@ -32,7 +35,6 @@ fn push_first(
 }
 
 /// The places of the ranges that are the same as this one.
-#[cycle(same)]
 fn partners(
     alloc: Global,
     facts: &Facts,
@@ -51,7 +53,6 @@ fn partners(
 }
 
 /// Every way to pair the variables one to one with those that are left.
-#[cycle(same)]
 pub fn pairings(
     alloc: Global,
     facts: &Facts,
@@ -185,6 +186,50 @@ pub fn same_cond(
     }
 }
 
+/// Whether some pairing that begins with these places makes the pieces and the conditions the same,
+/// the other variables taking places among those that are left.
+///
+/// Only those beginnings are followed that may lead to one.
+#[cycle(same)]
+fn can_go_on(
+    alloc: Global,
+    facts: &Facts,
+    ks: &[usize],
+    ranges: &Ranges,
+    left: &[&FormRange],
+    conds: &Conds,
+    pieces: &[Expr],
+    others: &[&Cond],
+    values: &[Expr],
+) -> Result<bool, AllocError>
+    ensures { IfOk result (λ yes. IsTrue yes ↔ GoesOn (known_of facts.now) ks.now (ranges_seen ranges.now) (map range_behind left.now) (conds_seen conds.now) pieces.now (map cond_behind others.now) values.now) }
+{
+    match ranges {
+        Ranges::Empty => {
+            if left.is_empty() && same_pieces(facts, ks, pieces, values) {
+                return same_conds(alloc, facts, ks, conds, others);
+            }
+            Ok(false)
+        }
+        Ranges::More(range, rest) => {
+            for j in 0..left.len() {
+                let longer = with_place(alloc, ks, j)?;
+                let ks = longer.as_slice();
+                if may_go_on(facts, ks, conds, pieces, others, values)
+                    && same_range(alloc, facts, range, left[j])?
+                {
+                    let fewer = without(alloc, left, j)?;
+                    let fewer = fewer.as_slice();
+                    if can_go_on(alloc, facts, ks, rest, fewer, conds, pieces, others, values)? {
+                        return Ok(true);
+                    }
+                }
+            }
+            Ok(false)
+        }
+    }
+}
+
 /// Whether some pairing of variables makes the terms the same.
 #[cycle(same)]
 pub fn same_term(
@@ -195,18 +240,22 @@ pub fn same_term(
 ) -> Result<bool, AllocError>
     ensures { IfOk result (λ yes. IsTrue yes ↔ TermIs (known_of facts.now) (term_seen term.now) (term_seen other.now)) }
 {
-    let ranges = range_refs(alloc, &other.ranges)?;
-    let ways = pairings(alloc, facts, &term.ranges, ranges.as_slice())?;
-    let conds = cond_refs(alloc, &other.conds)?;
-    for i in 0..ways.len() {
-        let ks = ways[i].as_slice();
-        if same_pieces(facts, ks, term.pieces.as_slice(), other.pieces.as_slice()) {
-            if same_conds(alloc, facts, ks, &term.conds, conds.as_slice())? {
-                return Ok(true);
-            }
-        }
+    if term_print(facts, term) != term_print(facts, other) {
+        return Ok(false);
     }
-    Ok(false)
+    let left = range_refs(alloc, &other.ranges)?;
+    let others = cond_refs(alloc, &other.conds)?;
+    can_go_on(
+        alloc,
+        facts,
+        &[],
+        &term.ranges,
+        left.as_slice(),
+        &term.conds,
+        term.pieces.as_slice(),
+        others.as_slice(),
+        other.pieces.as_slice(),
+    )
 }
 
 /// Whether the terms can be paired one to one with those that are left.

@@ -1,2 +1,4 @@
 pub mod PieceLaws
 pub mod HeldLaws
+pub mod ClosingLaws
+pub mod LinkLaws

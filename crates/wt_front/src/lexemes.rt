@@ -19,7 +19,7 @@ pub fn lexemes(
     requires within { to ≤ length tokens.now }
     ensures { IfOk result (λ v. v.items ≡ map (spec.lexeme bytes.now) (take (to - from) (drop from tokens.now))) }
 {
-    let mut all = Vec::new(alloc);
+    let mut all = Vec::with_capacity(alloc, to - from)?;
     for i in from..to {
         all.push(lexeme_of(bytes, tokens.get(i)))?;
     }

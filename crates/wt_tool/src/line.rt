@@ -19,6 +19,9 @@ pub(crate) struct Line {
     pub(crate) refused: bool,
 }
 
+// The room that a line begins with, in bytes: most lines need no more.
+const SHORT_LINE: usize = 128;
+
 // Adds `q0.c AS c`, behind a comma and a blank where it is not the first item.
 fn push_item(text: &mut Vec<u8>, item: &Item, is_first: bool) -> Result<(), AllocError>
     ensures { OnOk result (text.new.items ≡ text.old.items ++ items.item_after is_first (printing.item_text (queries.item_rewritten item.now))) }
@@ -58,7 +61,8 @@ fn push_items(text: &mut Vec<u8>, chosen: &[Item]) -> Result<(), AllocError>
 fn text_of(alloc: Global, chosen: &[Item], name: &[u8]) -> Result<Vec<u8>, AllocError>
     ensures { IfOk result (λ text. text.items ≡ items.text_over chosen.now name.now) }
 {
-    let mut text = Vec::from_slice(alloc, b"SELECT ")?;
+    let mut text = Vec::with_capacity(alloc, SHORT_LINE)?;
+    text.extend_from_slice(b"SELECT ")?;
     push_items(&mut text, chosen)?;
     text.extend_from_slice(b" FROM ")?;
     text.extend_from_slice(name)?;

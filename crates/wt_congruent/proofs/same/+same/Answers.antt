@@ -1,40 +1,17 @@
-use Rattle.std.proofs.Common.{rules, ◌∙◌, ap, sym, subst, arith, refl, map, ◌↔◌, ◌≡◌, true}
-use Rattle.wt_bag.specs.Choices.{Has, At, drop_at}
-use Rattle.wt_form.specs.Congruent.{TermsSame, RangesSame, RangeSame, CondsSame, CondSame, pieces_same}
-use Rattle.wt_form.specs.Parts.{conds_list}
+use Rattle.std.proofs.Common.{rules, ◌∙◌, ap, sym, subst, arith, refl, map, ◌↔◌, ◌≡◌, ◌++◌, ◌∷◌, [], ◌^◌, ◌-◌, true}
+use Rattle.wt_bag.specs.Choices.{At, drop_at}
+use Rattle.wt_form.specs.Congruent.{TermsSame, RangeSame, CondsSame, CondSame, pieces_same}
 use Rattle.wt_form.specs.Views.{terms_seen, ranges_seen, range_seen, conds_seen, cond_seen, terms_list, terms_from, term_seen}
 use Rattle.wt_facts.specs.Facts.{known_of}
 use Rattle.wt_congruent.specs.Refs.{term_behind, range_behind, cond_behind, TermIs}
-use Rattle.wt_congruent.proofs.Pairing.{at_within, hit, miss_first, miss_rest, one_more, has_at, paired_more, all_paired, partner_there, partner_absent, terms_hit, terms_taken, no_way, at_put, at_get, whole_in, whole_not_in, whole_distinct, term_hit, tails_are, no_terms_left, empty_is}
+use Rattle.wt_congruent.proofs.Pairing.{at_within, hit, miss_first, miss_rest, one_more, terms_hit, terms_taken, at_get, whole_in, whole_not_in, whole_distinct, no_terms_left, empty_is}
+use Rattle.wt_congruent.specs.Early.{GoesOn}
+use Rattle.wt_congruent.proofs.Begins.{goes_by, goes_there, shorter}
+use Rattle.wt_congruent.proofs.Shares.{unlike_term}
 use Rattle.wt_congruent.proofs.same.+same.Goals as goal
-use Rattle.wt_congruent.proofs.same.+same.Goals.{partners-then-branch+in_ok-push, partners-else-branch}
+use Rattle.wt_congruent.proofs.same.+same.Goals.{can_go_on-then-may_go_on+in_ok-same_range-in-More+then-branch+in_ok-fewer-in-More+in_ok-can_go_on-in-More+else-branch-2, can_go_on-else-may_go_on, can_go_on-else-may_go_on-via-then-may_go_on+in_ok-same_range-in-More+else-branch, can_go_on-else-may_go_on-via-else-may_go_on}
 use Rattle.wt_congruent.proofs.same.+same.Goals.{same_conds-then-branch+in_ok-fewer-in-More+in_ok-same_conds-in-More+else-branch-2, same_conds-else-branch}
 use Rattle.wt_congruent.proofs.same.+same.Goals.{same_terms-then-branch+in_ok-fewer-in-More+in_ok-same_terms-in-More+else-branch-2, same_terms-else-branch}
-use Rattle.wt_congruent.proofs.same.+same.Goals.{same_term-then-same_pieces+in_ok-same_conds+else-branch, same_term-else-same_pieces}
-
-pub partners-loop-j-preserved : goal.partners-loop-j-preserved
-partners-loop-j-preserved t c =
-    elim c.if-branch.branch [
-      | partners-then-branch+in_ok-push w ↦ partner_there (λ i. At (RangeSame (known_of c.args.facts.now) (range_seen c.args.range.now)) i (map range_behind c.args.left.now)) c.loop-j.j c.loop-j.out.items _ (search (rules, w.out-is, w.in_ok-push.ensures)) (at_put _ range_behind c.args.left.now c.loop-j.j _ (omega arith) c.index-left-j.is (c.in_ok-same_range.ensures.0 w.if-branch.true)) c.loop-j.invariant
-      | partners-else-branch w ↦ partner_absent (λ i. At (RangeSame (known_of c.args.facts.now) (range_seen c.args.range.now)) i (map range_behind c.args.left.now)) c.loop-j.j c.loop-j.out.items _ (ap (λ o. o.items) w.out-is) (λ h. search (rules, w.if-branch.false, c.in_ok-same_range.ensures.1 (at_get _ range_behind c.args.left.now c.loop-j.j _ c.index-left-j.is h))) c.loop-j.invariant
-    ]
-
-pub partners-returns : goal.partners-returns
-partners-returns t c j = (λ h. ((c.loop-j.invariant j).0 h).1, λ h. (c.loop-j.invariant j).1 (let l = at_within _ range_behind c.args.left.now j h in omega (arith, l), h))
-
-pub pairings-without-requires : goal.pairings-without-requires
-pairings-without-requires t c = at_within _ range_behind c.args.left.now c.index-j.result.now ((c.in_ok-all-in-More.ensures c.index-j.result.now).0 (has_at c.in_ok-all-in-More.all.items c.loop-i.i c.index-j.result.now (omega arith) c.index-j.ensures))
-
-pub pairings-loop-i-preserved : goal.pairings-loop-i-preserved
-pairings-loop-i-preserved t c =
-    paired_more (λ i is. RangesSame (known_of c.args.facts.now) is (ranges_seen c.in-More.rest.value) (drop_at i (map range_behind c.args.left.now))) c.in_ok-all-in-More.all.items c.loop-i.i c.index-j.result.now c.loop-i.out.items _ c.as_slice-in-loop-i.result.now (omega arith) c.index-j.ensures c.in_ok-push_first-in-More.ensures
-    (tails_are (known_of c.args.facts.now) (ranges_seen c.in-More.rest.value) _ range_behind c.args.left.now _ _ c.index-j.result.now _ (ap ranges_seen c.deref.ensures) c.as_slice.ensures.value c.in_ok-fewer-in-More.ensures
-    (λ ks. subst (λ l. Has ks l ↔ RangesSame (known_of c.args.facts.now) ks (ranges_seen c.deref.result.now) (map range_behind c.as_slice.result.now)) (sym c.as_slice-in-loop-i.ensures.value) (c.in_ok-tails-in-More.ensures ks))) c.loop-i.invariant
-
-pub pairings-returns-after-loop-i : goal.pairings-returns-after-loop-i
-pairings-returns-after-loop-i t c k =
-    subst (λ z. Has k c.loop-i.out.items ↔ RangesSame (known_of c.args.facts.now) k (ranges_seen z) (map range_behind c.args.left.now)) (sym c.in-More.is)
-    (all_paired (known_of c.args.facts.now) (range_seen c.in-More.range) (ranges_seen c.in-More.rest.value) (map range_behind c.args.left.now) c.in_ok-all-in-More.all.items c.loop-i.i c.loop-i.out.items (omega arith) c.in_ok-all-in-More.ensures c.loop-i.invariant k)
 
 pub same_cond-returns-in_ok-same-in-In-d : goal.same_cond-returns-in_ok-same-in-In-d
 same_cond-returns-in_ok-same-in-In-d t c =
@@ -79,27 +56,48 @@ same_conds-returns-after-loop-j t c = (
       absurd (c.loop-j.invariant h.0 (omega (arith, l)) (h.1, h.2)),
 )
 
-pub same_term-returns-then-branch : goal.same_term-returns-then-branch
-same_term-returns-then-branch t c = (
-  λ u. term_hit (known_of c.args.facts.now) (term_seen c.args.term.now) (term_seen c.args.other.now) c.in_ok-ways.ways.items c.loop-i.i c.index.result.now _ c.as_slice-ks.result.now _ _ _ _ (omega arith) c.index.ensures
-      c.as_slice-ks.ensures
-      c.as_slice-ks.ensures
-      (ap (map range_behind) c.as_slice.ensures.value) c.in_ok-ranges.ensures (ap (map cond_behind) c.as_slice-then-same_pieces.ensures.value) c.in_ok-conds.ensures c.in_ok-ways.ensures (c.in_ok-same_conds.ensures.0 c.if-branch.true) (search (rules, c.if-same_pieces.true, c.same_pieces.ensures, c.as_slice-in-loop-i.ensures, c.as_slice-in-loop-i-2.ensures)),
+pub can_go_on-returns-then-branch-2 : goal.can_go_on-returns-then-branch-2
+can_go_on-returns-then-branch-2 t c = (
+  λ u. subst (λ z. GoesOn (known_of c.args.facts.now) c.args.ks.now (ranges_seen z) (map range_behind c.args.left.now) (conds_seen c.args.conds.now) c.args.pieces.now (map cond_behind c.args.others.now) c.args.values.now) (sym c.in-More.is)
+      (goes_by (known_of c.args.facts.now) range_behind c.args.left.now _ c.loop-j.j _ c.args.ks.now _ (range_seen c.in-More.range) (ranges_seen c.in-More.rest.value) _ (conds_seen c.args.conds.now) c.args.pieces.now (map cond_behind c.args.others.now) c.args.values.now (ap ranges_seen c.deref.ensures) (omega arith) c.index-left-j.is
+      (c.as_slice-fewer.ensures.value ∙ c.in_ok-fewer-in-More.ensures) (c.as_slice-ks.ensures ∙ c.in_ok-longer-in-More.ensures) (c.in_ok-same_range-in-More.ensures.0 c.if-branch.true) (c.in_ok-can_go_on-in-More.ensures.0 c.if-branch-2.true)),
   λ u. refl,
 )
 
-pub same_term-loop-i-preserved : goal.same_term-loop-i-preserved
-same_term-loop-i-preserved t c =
-    no_way (λ ks. CondsSame (known_of c.args.facts.now) ks (conds_seen c.args.term.now.conds) (conds_list (conds_seen c.args.other.now.conds)) × (pieces_same (known_of c.args.facts.now) ks c.args.term.now.pieces c.args.other.now.pieces ≡ true)) c.in_ok-ways.ways.items c.loop-i.i c.index.result.now (omega arith) c.index.ensures
-    (elim c.if-same_pieces.branch [
-      | same_term-then-same_pieces+in_ok-same_conds+else-branch w ↦ λ p. search (
+pub can_go_on-loop-j-preserved : goal.can_go_on-loop-j-preserved
+can_go_on-loop-j-preserved t c =
+    one_more (λ i. At (RangeSame (known_of c.args.facts.now) (range_seen c.in-More.range)) i (map range_behind c.args.left.now) × GoesOn (known_of c.args.facts.now) (c.args.ks.now ++ i ∷ []) (ranges_seen c.in-More.rest.value) (drop_at i (map range_behind c.args.left.now)) (conds_seen c.args.conds.now) c.args.pieces.now (map cond_behind c.args.others.now) c.args.values.now) c.loop-j.j c.loop-j.invariant
+    (elim c.if-may_go_on.branch [
+      | can_go_on-then-may_go_on+in_ok-same_range-in-More+then-branch+in_ok-fewer-in-More+in_ok-can_go_on-in-More+else-branch-2 w ↦ λ p. search (
         rules,
-        w.if-branch.false,
-        w.in_ok-same_conds.ensures.1 (subst (λ z. CondsSame (known_of c.args.facts.now) z (conds_seen c.args.term.now.conds) (map cond_behind w.as_slice-then-same_pieces.result.now)) (sym c.as_slice-ks.ensures)
-            (subst (CondsSame (known_of c.args.facts.now) c.index.result.now (conds_seen c.args.term.now.conds)) (sym (ap (map cond_behind) w.as_slice-then-same_pieces.ensures.value ∙ c.in_ok-conds.ensures)) p.0)),
+        w.if-branch-2.false,
+        w.in_ok-can_go_on-in-More.ensures.1 (goes_there (known_of c.args.facts.now) range_behind c.args.left.now _ c.loop-j.j c.args.ks.now _ (ranges_seen c.in-More.rest.value) _ (conds_seen c.args.conds.now) c.args.pieces.now (map cond_behind c.args.others.now) c.args.values.now (ap ranges_seen w.deref.ensures) (w.as_slice-fewer.ensures.value ∙ w.in_ok-fewer-in-More.ensures) (c.as_slice-ks.ensures ∙ c.in_ok-longer-in-More.ensures) p.1),
       )
-      | same_term-else-same_pieces w ↦ λ p. search (rules, p.1, w.if-same_pieces.false, c.same_pieces.ensures, c.as_slice-in-loop-i.ensures, c.as_slice-in-loop-i-2.ensures, c.as_slice-ks.ensures)
-    ]) c.loop-i.invariant
+      | can_go_on-else-may_go_on w ↦ elim w.else-may_go_on.branch [
+        | can_go_on-else-may_go_on-via-then-may_go_on+in_ok-same_range-in-More+else-branch v ↦ λ p. search (rules, v.if-branch.false, v.in_ok-same_range-in-More.ensures.1 (at_get (RangeSame (known_of c.args.facts.now) (range_seen c.in-More.range)) range_behind c.args.left.now c.loop-j.j _ v.index-left-j.is p.0))
+        | can_go_on-else-may_go_on-via-else-may_go_on v ↦ λ p. search (
+          rules,
+          v.if-may_go_on.false,
+          c.may_go_on.ensures p.1.0 (subst (λ z. CondsSame (known_of c.args.facts.now) (z ++ p.1.0) (conds_seen c.args.conds.now) (map cond_behind c.args.others.now)) (sym (c.as_slice-ks.ensures ∙ c.in_ok-longer-in-More.ensures)) p.1.2)
+              (subst (λ z. pieces_same (known_of c.args.facts.now) (z ++ p.1.0) c.args.pieces.now c.args.values.now ≡ true) (sym (c.as_slice-ks.ensures ∙ c.in_ok-longer-in-More.ensures)) p.1.3),
+        )
+      ]
+    ])
+
+pub can_go_on-returns-after-loop-j : goal.can_go_on-returns-after-loop-j
+can_go_on-returns-after-loop-j t c = (
+  λ u. cc,
+  λ p.
+      let h = shorter (known_of c.args.facts.now) c.args.ks.now (range_seen c.in-More.range) (ranges_seen c.in-More.rest.value) (map range_behind c.args.left.now) (conds_seen c.args.conds.now) c.args.pieces.now (map cond_behind c.args.others.now) c.args.values.now (subst (λ z. GoesOn (known_of c.args.facts.now) c.args.ks.now (ranges_seen z) (map range_behind c.args.left.now) (conds_seen c.args.conds.now) c.args.pieces.now (map cond_behind c.args.others.now) c.args.values.now) c.in-More.is p) in
+      let l = at_within _ range_behind c.args.left.now h.0 h.1 in
+      absurd (c.loop-j.invariant h.0 (omega (arith, l)) (h.1, h.2)),
+)
+
+pub same_term-returns-then-term_print : goal.same_term-returns-then-term_print
+same_term-returns-then-term_print t c = (
+  λ u. cc,
+  λ h. absurd (unlike_term c.args.facts.now (term_seen c.args.term.now) (term_seen c.args.other.now) _ _ (2 ^ 64 - 1) c.term_print.ensures c.term_print-2.ensures c.if-term_print.true h),
+)
 
 pub same_terms-returns-in-Empty : goal.same_terms-returns-in-Empty
 same_terms-returns-in-Empty t c =

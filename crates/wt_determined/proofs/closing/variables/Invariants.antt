@@ -1,0 +1,6 @@
+use Rattle.std.proofs.Common.{ℕ, ◌<◌}
+use Rattle.wt_bag.specs.Choices.{Has}
+use Rattle.wt_determined.proofs.closing.variables.Given as goal
+
+abbrev pub invariant-loop-v : goal.invariant-loop-v
+invariant-loop-v l = (v : ℕ) → v < l.v → Has v l.out.items

@@ -12,7 +12,9 @@ use Rattle.wt_instance.specs.declared.instance.Instance.{Instance}
 use Rattle.wt_instance.specs.Instances.{IsInstance}
 use Rattle.wt_instance.specs.Meeting.{Meets}
 use Rattle.wt_instance.specs.Rows.{rows_of}
-use Rattle.wt_tool.specs.Queries.{is_rewritable, output_names, query_rows, rewritten}
+use Rattle.wt_query_rows.specs.Rows.{query_rows}
+use Rattle.wt_query_rows.specs.Scopes.{output_names}
+use Rattle.wt_tool.specs.Queries.{is_rewritable, rewritten}
 
 -- on every database that satisfies the schema, the rewritten query has the same rows, each as often
 abbrev pub KeepsRows : Type 0
@@ -21,7 +23,7 @@ KeepsRows = (tables : List Table) (base : List (List Tuple)) (query : QueryTree)
 
 -- and the same output names
 abbrev pub KeepsNames : Type 0
-KeepsNames = (tables : List Table) (query : QueryTree) → is_rewritable tables query ≡ true → output_names (rewritten query) ≡ output_names query
+KeepsNames = (tables : List Table) (query : QueryTree) → is_rewritable tables query ≡ true → output_names tables (rewritten query) ≡ output_names tables query
 
 -- the two sides of each rule of a pair give one bag on every instance that meets its set, NULLs and repeated rows included
 abbrev pub RulesHaveOneBag : Type 0

@@ -1,0 +1,13 @@
+//! Operands of joins and comma lists, the conjuncts of WHERE and ON, and the plan of a query from them. The walk over a query
+//! stands above.
+#![tactic(auto)]
+
+mod conditions;
+mod finish;
+mod lists;
+mod scopes;
+
+pub use conditions::{enclosing, places, push_member, push_test};
+pub use finish::finished;
+pub use lists::{inner_list, leaf_list, left_list, longer, right_list, single};
+pub use scopes::split;

@@ -1,0 +1,2 @@
+pub mod ExistLaws
+pub mod RoomLaws

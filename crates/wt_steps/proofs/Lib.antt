@@ -1,0 +1,3 @@
+pub mod PlaceSteps
+pub mod RowLaws
+pub mod OnceLaws

@@ -1,0 +1,10 @@
+//! Every form that one step gives.
+#![tactic(auto)]
+
+mod every;
+mod inside;
+mod once;
+mod rows;
+
+pub use every::steps;
+pub use std::alloc::AllocError as WantOfMemory;

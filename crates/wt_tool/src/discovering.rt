@@ -9,7 +9,7 @@ ghost use Rattle.wt_tool.specs.Outcomes.{AppendsPrefix, Ends, Outcome};
 use crate::put::put;
 use crate::stop::Stop;
 use std::alloc::Global;
-use wt_discover::lines_of_pairs;
+use wt_discover::towers::lines_of_pairs;
 use wt_io::Sink;
 use wt_pair::{Bounds, Pairs};
 use wt_rule::{write_end, write_head};

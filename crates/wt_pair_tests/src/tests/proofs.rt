@@ -8,7 +8,7 @@ use crate::tests::lawful;
 use std::alloc::{AllocError, Global};
 use std::test::Fail;
 use wt_constraint::{AtomSet, atoms_of, full};
-use wt_discover::lines_of_pairs;
+use wt_discover::towers::lines_of_pairs;
 use wt_prover::{is_tower, prove};
 use wt_relax::rules_of_pair;
 use wt_symbol::Pair;

@@ -1,6 +1,6 @@
 use Rattle.std.proofs.Common.{◌≡◌, ◌++◌, ◌+◌, ◌-◌, ◌^◌, min, ap, ◌∙◌, rules}
 use Rattle.wt_discover.proofs.Counted.{counted_more}
-use Rattle.wt_discover.proofs.lines_of_pairs.Goals as goal
+use Rattle.wt_discover.proofs.towers.lines_of_pairs.Goals as goal
 
 pub loop-pair-preserved : goal.loop-pair-preserved
 loop-pair-preserved c =

@@ -1,5 +1,6 @@
 //! Sides and pairs written as text, for the table of the tests, and the forms that one step gives.
 
+mod proofs;
 mod steps;
 
 ghost use Rattle.std.specs.Prelude.{◌≤◌, IfOk, IfSome, IsTrue};

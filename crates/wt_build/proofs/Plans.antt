@@ -1,16 +1,21 @@
 -- What holds of the plan of a statement.
 use Rattle.std.proofs.Common.{◌≡◌, ◌≤◌, List, [], length, Result, Ok, Err, ap, sym, subst, ◌∙◌, arith}
 use Rattle.std.specs.Prelude.{IfOk}
+use Rattle.wt_ast.specs.Lawful.{IsLawful}
 use Rattle.wt_ast.specs.Tree.{QueryTree}
 use Rattle.wt_schema.specs.declared.schema.Table.{Table}
+use Rattle.wt_schema.specs.Lawful.{IsSchema}
 use Rattle.wt_value.specs.Values.{Tuple, IsOneBag}
 use Rattle.wt_plan.specs.declared.plan.Named.{Named}
 use Rattle.wt_plan.specs.Tree.{plan_tree}
 use Rattle.wt_plan.specs.Measures.{width, node_count}
+use Rattle.wt_plan.specs.Regular.{Regular}
 use Rattle.wt_plan.specs.Rows.{plan_rows}
 use Rattle.wt_place.specs.Placing.{placed}
 use Rattle.wt_place.proofs.Measured.{nodes_kept}
 use Rattle.wt_place.proofs.NarrowKept.{width_placed}
+use Rattle.wt_place.proofs.Regularity.{regular_placed}
+use Rattle.wt_regular.proofs.Regulars.{regular_plan}
 use Rattle.wt_query_rows.specs.Rows.{query_rows}
 use Rattle.wt_query_plan.specs.declared.fault.BuildError.{BuildError}
 use Rattle.wt_query_plan.specs.Building.{planned}
@@ -38,3 +43,7 @@ module _ (S : List Table) (q : QueryTree) where
   pub nodes_told : (r : Result Named BuildError) → items_in q ≤ 256 → Told S q r → conjuncts_in q ≤ 256 → IfOk r (λ named. node_count (plan_tree named.plan) ≤ 1280)
   nodes_told (Ok named) few h small = let is : node_count (plan_tree named.plan) ≡ node_count (placed (planned S q)) = ap node_count h.1.0 in omega (arith, is, nodes_kept (planned S q), query_nodes S q, few, small)
   nodes_told (Err e) few h small = tt
+
+  pub regular_told : (r : Result Named BuildError) → IsSchema S → Told S q r → IsLawful q → IfOk r (λ named. Regular S (plan_tree named.plan))
+  regular_told (Ok named) schema h lawful = subst (Regular S) (sym h.1.0) (regular_placed S (planned S q) (regular_plan S schema q lawful h.0))
+  regular_told (Err e) schema h lawful = tt

@@ -88,12 +88,7 @@ pub(crate) fn refusal_line(alloc: Global, kind: &str, at: u32) -> Result<Line, A
 }
 
 // The line of a statement that begins at this offset and is not printed: its first fault, where it has one.
-fn unbuilt_line(
-    alloc: Global,
-    schema: &Schema,
-    query: &Query,
-    at: u32,
-) -> Result<Line, AllocError>
+fn unbuilt_line(alloc: Global, schema: &Schema, query: &Query, at: u32) -> Result<Line, AllocError>
     requires { IsLawful (query_tree query.now) }
     ensures { IfOk result (λ line. line ≡ spec.unbuilt_line at (query_fault schema.now.tables [] (query_tree query.now))) }
 {

@@ -5,7 +5,7 @@ use Rattle.wt_discover.specs.Files.{AreCounted}
 use Rattle.wt_pair.specs.Lots.{IsNextLot}
 use Rattle.wt_symbol.specs.Sides.{pair_of}
 use Rattle.wt_tool.proofs.Putting.{rose_since}
-use Rattle.wt_tool.proofs.RuleLines.{fewer_left, lot_lawful, lot_towers, next_pairs, so_far_next, stops_here, stops_in_lot}
+use Rattle.wt_tool.proofs.RuleLines.{fewer_left, next_pairs, so_far_next, stops_here, stops_in_lot}
 use Rattle.wt_tool.proofs.discovering.put_lots.Goals as goal
 
 pub returns-in_err-lot-clause-puts : goal.returns-in_err-lot-clause-puts
@@ -13,17 +13,11 @@ returns-in_err-lot-clause-puts g c =
     let p = err_from_is_err_and c.from_residual.result c.from_residual.ensures.1 in
     rw (p.1, p.2) (stops_here c.args.bounds.now ⊥ c.lots.pairs.first _ _ c.lots.count c.lots.invariant.so_far)
 
-pub lines_of_pairs-requires-clause-lawful : goal.lines_of_pairs-requires-clause-lawful
-lines_of_pairs-requires-clause-lawful g c =
+pub lines_of_pairs-requires : goal.lines_of_pairs-requires
+lines_of_pairs-requires g c =
     let next : IsNextLot c.lots.pairs c.next_lot.new.self c.in-Some.lot = search rules in
     let items : c.as_slice.result.now ≡ c.in-Some.lot.pairs = search rules in
-    lot_lawful c.args.bounds.now c.requires.letters c.lots.pairs.first c.next_lot.new.self.first c.as_slice.result.now (next_pairs c.args.bounds.now c.lots.pairs c.next_lot.new.self c.in-Some.lot c.as_slice.result.now c.lots.invariant.bounds items next)
-
-pub lines_of_pairs-requires-clause-towers : goal.lines_of_pairs-requires-clause-towers
-lines_of_pairs-requires-clause-towers g c =
-    let next : IsNextLot c.lots.pairs c.next_lot.new.self c.in-Some.lot = search rules in
-    let items : c.as_slice.result.now ≡ c.in-Some.lot.pairs = search rules in
-    lot_towers c.args.bounds.now c.requires.letters c.lots.pairs.first c.next_lot.new.self.first c.as_slice.result.now (next_pairs c.args.bounds.now c.lots.pairs c.next_lot.new.self c.in-Some.lot c.as_slice.result.now c.lots.invariant.bounds items next)
+    rw items next.lawful
 
 pub returns-in_err-lines-clause-puts : goal.returns-in_err-lines-clause-puts
 returns-in_err-lines-clause-puts g c =

@@ -1,4 +1,2 @@
 pub mod OneFile
-pub mod TreesKeep
-pub mod TowerShapes
 pub mod Counted

@@ -1,11 +1,9 @@
 -- The rule file of a list of pairs.
 use Rattle.std.specs.Prelude.{ℕ, ◌+◌, ◌-◌, ◌^◌, ◌≡◌, min, List, [], ◌∷◌, ◌++◌, length}
 use Rattle.std.specs.List.{flat_map}
-use Rattle.std.specs.Int.{bit_at}
 use Rattle.wt_symbol.specs.Sides.{PairTree}
 use Rattle.wt_constraint.specs.declared.set.AtomSet.{AtomSet}
 use Rattle.wt_form.specs.Relaxed.{AreRules}
-use Rattle.wt_prover.specs.SideTowers.{IsTower}
 use Rattle.wt_rule.specs.Texts.{head_line, end_line, line_of}
 
 -- the lines of the rules of a pair, in order, and how many rules it has
@@ -28,17 +26,6 @@ pub record IsRuleFile (steps depth : ℕ) (pairs : List PairTree) (text : List �
   pub count : ℕ
   pub are : AreAllLines steps depth pairs lines count
   pub is : text ≡ head_line steps ++ (lines ++ end_line (min count (2 ^ 64 - 1)))
-
--- the letters of a set of operators are F and D alone
-pub record HasOnlyFiltersAndDedups (ops : ℕ) : Type 0 where
-  pub no_proj : bit_at ops 0 ≡ 0
-  pub no_inner_join : bit_at ops 2 ≡ 0
-  pub no_left_join : bit_at ops 3 ≡ 0
-  pub no_in_sub : bit_at ops 4 ≡ 0
-
--- both sides of a pair have only inputs, filters and dedups
-abbrev pub HasTowers : PairTree → Type 0
-HasTowers p = IsTower p.source × IsTower p.dest
 
 -- the lines of the rules of some pairs, and their number as far as 64 bits go
 pub record AreCounted (steps depth : ℕ) (pairs : List PairTree) (text : List ℕ) (count : ℕ) : Type 0 where

@@ -3,7 +3,6 @@
 
 mod laws;
 mod lines;
-pub mod towers;
 
 pub use laws::{first_pairs_begin_the_rule_file, one_rule_file};
 pub use lines::{RuleLines, lines_of_pairs, rule_lines};

@@ -36,7 +36,7 @@ fn push_line(alloc: Global, pair: &Pair, set: AtomSet, text: &mut Vec<u8>) -> Re
 }
 
 /// The lines of a pair with each of these sets, in order.
-pub fn lines_of(alloc: Global, pair: &Pair, sets: &[AtomSet]) -> Result<Vec<u8>, AllocError>
+fn lines_of(alloc: Global, pair: &Pair, sets: &[AtomSet]) -> Result<Vec<u8>, AllocError>
     requires { IsLawful (pair_of pair.now) }
     ensures { IfOk result (λ text. text.items ≡ flat_map (line_of (pair_of pair.now)) sets.now) }
 {

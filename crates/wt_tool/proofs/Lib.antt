@@ -3,7 +3,6 @@ pub mod Putting
 pub mod Files
 pub mod LinesOf
 pub mod StatementLines
-pub mod TowerPairs
 pub mod RuleLines
 pub mod Statuses
 pub mod QueryLaws

@@ -5,9 +5,7 @@ use Rattle.std.proofs.lemmas.Bool.{true≢false}
 use Rattle.std.proofs.lemmas.List.{length-map, take_all, take-append-drop}
 use Rattle.std.specs.Io.KnownBytes.{append_known}
 use Rattle.std.specs.declared.option.Option.{Option}
-use Rattle.wt_bag.specs.Bags.{Each}
-use Rattle.wt_bag.proofs.EachLaws.{all_from_each, each_append_left, each_append_right, each_implies, each_of_map}
-use Rattle.wt_discover.specs.Files.{AreAllLines, AreCounted, HasOnlyFiltersAndDedups, HasTowers}
+use Rattle.wt_discover.specs.Files.{AreAllLines, AreCounted}
 use Rattle.wt_discover.proofs.Counted.{all_lines_append}
 use Rattle.wt_io.proofs.Written.{append_known-twice}
 use Rattle.wt_pair.specs.Candidates.{pairs_of}
@@ -16,7 +14,6 @@ use Rattle.wt_pair.specs.declared.lot.Lot.{Lot}
 use Rattle.wt_pair.specs.Lots.{IsNextLot}
 use Rattle.wt_pair.specs.Walk.{Progress}
 use Rattle.wt_rule.specs.Texts.{head_line, end_line}
-use Rattle.wt_symbol.specs.Lawful.{IsLawful}
 use Rattle.wt_symbol.specs.Sides.{PairTree, pair_of}
 use Rattle.wt_symbol.specs.declared.side.Pair.{Pair}
 use Rattle.wt_tool.specs.declared.stop.Stop.{Stop}
@@ -24,7 +21,6 @@ use Rattle.wt_tool.specs.declared.stop.Stop.TheVariants.{Memory}
 use Rattle.wt_tool.specs.Discovering.{Discovers, IsWhole, PutsRules}
 use Rattle.wt_tool.specs.Outcomes.{AppendsPrefix, Outcome, Stops}
 use Rattle.wt_tool.proofs.Putting.{append_known-nil, stops_after}
-use Rattle.wt_tool.proofs.TowerPairs.{IsTowerPair, pairs_are_towers}
 
 -- the lines of these pairs were put, and their number was counted
 pub record PutSoFar (steps depth : ℕ) (pairs : List PairTree) (old new : Option (List ℕ)) (count : ℕ) : Type 0 where
@@ -85,20 +81,6 @@ pub next_pairs : (b : Bounds) (old new : Progress) (lot : Lot) (pairs : List Pai
 next_pairs b old new lot pairs same items next =
     subst (λ ps. take new.first (pairs_of b) ≡ take old.first (pairs_of b) ++ map pair_of ps) (sym items)
     (subst (λ x. take new.first (pairs_of x) ≡ take old.first (pairs_of x) ++ map pair_of lot.pairs) same next.together)
-
--- the pairs of a lot of bounds of filters and dedups alone
-module _ (b : Bounds) (only : HasOnlyFiltersAndDedups b.ops.0) (n m : ℕ) (lot : List Pair) (together : take m (pairs_of b) ≡ take n (pairs_of b) ++ map pair_of lot) where
-  towers : Each (λ p. IsTowerPair (pair_of p)) lot
-  towers =
-      let whole = subst (Each IsTowerPair) (sym (take-append-drop m (pairs_of b))) (pairs_are_towers b only) in
-      let first = each_append_left IsTowerPair (take m (pairs_of b)) (drop m (pairs_of b)) whole in
-      each_of_map IsTowerPair pair_of lot (each_append_right IsTowerPair (take n (pairs_of b)) (map pair_of lot) (subst (Each IsTowerPair) together first))
-
-  pub lot_lawful : All (λ p. IsLawful (pair_of p)) lot
-  lot_lawful = all_from_each (λ p. IsLawful (pair_of p)) lot (each_implies (λ p. IsTowerPair (pair_of p)) (λ p. IsLawful (pair_of p)) lot (λ p h. h.0) towers)
-
-  pub lot_towers : All (λ p. HasTowers (pair_of p)) lot
-  lot_towers = all_from_each (λ p. HasTowers (pair_of p)) lot (each_implies (λ p. IsTowerPair (pair_of p)) (λ p. HasTowers (pair_of p)) lot (λ p h. h.1) towers)
 
 -- the whole run, from how its parts end
 module _ (b : Bounds) (rose : Type 0) (old : Option (List ℕ)) where

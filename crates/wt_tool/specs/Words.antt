@@ -1,9 +1,7 @@
 -- Which words are which command, of those that are built.
-use Rattle.std.specs.Prelude.{◌≡◌, ℕ, ◌==◌, ◌&&◌, List, Bool, Result, Ok, Err, if◌then◌else◌}
-use Rattle.std.specs.Int.{bit_at}
+use Rattle.std.specs.Prelude.{◌≡◌, ℕ, ◌==◌, List, Bool, Result, Ok, Err, if◌then◌else◌}
 use Rattle.wt_pair.specs.declared.bounds.Bounds.{Bounds}
 use Rattle.wt_pair.specs.Candidates.{IsWithinLimits}
-use Rattle.wt_discover.specs.Files.{HasOnlyFiltersAndDedups}
 use Rattle.wt_words.specs.declared.fault.UsageFault.{UsageFault}
 use Rattle.wt_words.specs.Commands as words
 use Rattle.wt_tool.specs.declared.words.UsageRefusal.{UsageRefusal}
@@ -26,13 +24,9 @@ pub data Command : Type 0 where
   Rewrite : Names → Command
   Discover : Bounds → Command
 
--- the operators are Filter and Dedup alone
-abbrev pub are_filters_and_dedups : ℕ → Bool
-are_filters_and_dedups ops = bit_at ops 0 == 0 && bit_at ops 2 == 0 && bit_at ops 3 == 0 && bit_at ops 4 == 0
-
--- a command of the words, if it is built: a discovery is over filters and dedups, with one worker
+-- a command of the words, if it is built: a discovery is with one worker
 abbrev pub built : words.Command → Result Command UsageRefusal
-built (words.discover bounds workers) = if are_filters_and_dedups bounds.ops.0 && workers == 1 then Ok (Discover bounds) else Err NotBuilt
+built (words.discover bounds workers) = if workers == 1 then Ok (Discover bounds) else Err NotBuilt
 built (words.rewrite rules schema queries) = Ok (Rewrite (named rules schema queries))
 built (words.check rules) = Err NotBuilt
 built (words.demo first count) = Err NotBuilt
@@ -53,10 +47,10 @@ abbrev pub command_view : SpokenCommand → Command
 command_view (spoken.Rewrite names) = Rewrite (names_of names)
 command_view (spoken.Discover bounds) = Discover bounds
 
--- the bounds of a discovery are within the limits, over filters and dedups alone
+-- the bounds of a discovery are within the limits
 abbrev pub IsSearched : SpokenCommand → Type 0
 IsSearched (spoken.Rewrite names) = Unit {0}
-IsSearched (spoken.Discover bounds) = IsWithinLimits bounds × HasOnlyFiltersAndDedups bounds.ops.0
+IsSearched (spoken.Discover bounds) = IsWithinLimits bounds
 
 -- what the code read is what the words give
 abbrev pub Reads : Result SpokenCommand UsageRefusal → Result Command UsageRefusal → Type 0

@@ -1,6 +1,5 @@
 //! `discover`, on the caller's thread.
 ghost use Rattle.std.specs.Prelude.{◌≡◌, ◌≢◌, ◌≤◌, ◌⊎◌, ℕ, List};
-ghost use Rattle.wt_discover.specs.Files.{HasOnlyFiltersAndDedups};
 ghost use Rattle.wt_io.specs.Causes.{Rose};
 ghost use Rattle.wt_pair.specs.Candidates.{IsWithinLimits};
 ghost use Rattle.wt_tool.specs.Discovering as spec;
@@ -9,45 +8,64 @@ ghost use Rattle.wt_tool.specs.Outcomes.{AppendsPrefix, Ends, Outcome};
 use crate::put::put;
 use crate::stop::Stop;
 use std::alloc::Global;
-use wt_discover::towers::lines_of_pairs;
+use wt_discover::lines_of_pairs;
+use wt_form::Prover;
 use wt_io::Sink;
 use wt_pair::{Bounds, Pairs};
 use wt_rule::{write_end, write_head};
 
 // Puts the lines of the rules of all pairs, lot by lot; answers their number.
-fn put_lots<K: Sink>(alloc: Global, bounds: &Bounds, sink: &mut K) -> Result<u64, Stop>
+fn put_lots<P: Prover, K: Sink>(
+    prover: &P,
+    alloc: Global,
+    bounds: &Bounds,
+    sink: &mut K,
+) -> Result<u64, Stop>
     requires limits { IsWithinLimits bounds.now }
-    requires letters { HasOnlyFiltersAndDedups bounds.now.ops.0 }
     ensures puts { spec.PutsRules bounds.now (Rose (K.faults sink.old) (K.faults sink.new)) (K.written sink.old) (K.written sink.new) result }
     ensures later { K.faults sink.old ≤ K.faults sink.new }
 {
     let mut count = 0u64;
     let mut pairs = Pairs::new(*bounds);
     'lots: while let Some(lot) = pairs.next_lot(alloc)? {
-        let lines = lines_of_pairs(alloc, lot.pairs.as_slice(), bounds.depth, bounds.steps)?;
+        let lines = lines_of_pairs(
+            prover,
+            alloc,
+            lot.pairs.as_slice(),
+            bounds.depth,
+            bounds.steps,
+        )?;
         put(sink, lines.text.as_slice())?;
         count = count.saturating_add(lines.count);
     }
     Ok(count)
 }
 
-fn try_discover<K: Sink>(alloc: Global, bounds: &Bounds, sink: &mut K) -> Result<u8, Stop>
+fn try_discover<P: Prover, K: Sink>(
+    prover: &P,
+    alloc: Global,
+    bounds: &Bounds,
+    sink: &mut K,
+) -> Result<u8, Stop>
     requires limits { IsWithinLimits bounds.now }
-    requires letters { HasOnlyFiltersAndDedups bounds.now.ops.0 }
     ensures { spec.Discovers bounds.now (Rose (K.faults sink.old) (K.faults sink.new)) (K.written sink.old) (K.written sink.new) result }
 {
     let head = write_head(alloc, bounds.steps)?;
     put(sink, head.as_slice())?;
-    let count = put_lots(alloc, bounds, sink)?;
+    let count = put_lots(prover, alloc, bounds, sink)?;
     let end = write_end(alloc, count)?;
     put(sink, end.as_slice())?;
     Ok(0)
 }
 
 /// Writes the rule file of the bounds, made on the caller's thread, and ends with the status of the command.
-pub fn discover_alone<K: Sink>(alloc: Global, bounds: &Bounds, sink: &mut K) -> u8
+pub fn discover_alone<P: Prover, K: Sink>(
+    prover: &P,
+    alloc: Global,
+    bounds: &Bounds,
+    sink: &mut K,
+) -> u8
     requires limits { IsWithinLimits bounds.now }
-    requires letters { HasOnlyFiltersAndDedups bounds.now.ops.0 }
 
     // The status and the bytes.
     ensures whole { (o : Outcome) × spec.IsDiscovered bounds.now o
@@ -60,7 +78,7 @@ pub fn discover_alone<K: Sink>(alloc: Global, bounds: &Bounds, sink: &mut K) -> 
     ensures write { result ≡ 5 → Rose (K.faults sink.old) (K.faults sink.new) }
     ensures prefix { (result ≡ 5) ⊎ (result ≡ 6) → (file : List ℕ) → spec.IsFileOf bounds.now file → AppendsPrefix (K.written sink.old) (K.written sink.new) file }
 {
-    match try_discover(alloc, bounds, sink) {
+    match try_discover(prover, alloc, bounds, sink) {
         Ok(status) => status,
         Err(stop) => stop.status(),
     }

@@ -14,6 +14,7 @@ use std::alloc::Global;
 use std::sync::Wait;
 use std::thread::Threads;
 use wt_io::{Gate, Sink, Store};
+use wt_search::Search;
 use wt_words::UsageFault;
 
 // The line of words that are refused.
@@ -50,7 +51,7 @@ fn run<S: Store, K: Sink>(alloc: Global, words: &[String], store: &mut S, sink: 
 {
     match read_words(words) {
         Ok(Command::Rewrite(names)) => rewrite_files(alloc, &names, store, sink),
-        Ok(Command::Discover(bounds)) => discover_alone(alloc, &bounds, sink),
+        Ok(Command::Discover(bounds)) => discover_alone(&Search {}, alloc, &bounds, sink),
         Err(refusal) => refuse_words(refusal, sink),
     }
 }

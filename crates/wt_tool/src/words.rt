@@ -4,7 +4,6 @@ ghost use Rattle.wt_tool.specs.Words as spec;
 ghost use Rattle.wt_words.specs.Commands as words_spec;
 
 use wt_pair::Bounds;
-use wt_template::Ops;
 use wt_words::UsageFault;
 
 /// The names of the three files of `rewrite`.
@@ -29,25 +28,13 @@ pub(crate) enum UsageRefusal {
     NotBuilt,
 }
 
-/// Whether the operators are Filter and Dedup alone.
-fn are_filters_and_dedups(ops: Ops) -> bool
-    ensures { result ≡ spec.are_filters_and_dedups ops.0 }
-{
-    let variants = ops.variants();
-    variants.proj == 0
-        && variants.inner_join == 0
-        && variants.left_join == 0
-        && variants.in_sub == 0
-}
-
 fn built<'a>(command: &wt_words::Command<'a>) -> Result<Command<'a>, UsageRefusal>
     requires { words_spec.IsLimited command.now }
     ensures reads { spec.Reads result (spec.built (words_spec.command_seen command.now)) }
     ensures searched { IfOk result spec.IsSearched }
 {
     match *command {
-        wt_words::Command::Discover { bounds, workers }
-            if are_filters_and_dedups(bounds.ops) && workers == 1 => {
+        wt_words::Command::Discover { bounds, workers } if workers == 1 => {
             Ok(Command::Discover(bounds))
         }
         wt_words::Command::Rewrite {

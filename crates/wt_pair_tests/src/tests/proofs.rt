@@ -1,41 +1,21 @@
-//! What the prover proves over Filter and Dedup, the rules of a pair, and their lines.
-ghost use Rattle.std.specs.Prelude.{IfOk, IfSome};
-ghost use Rattle.wt_symbol.specs.Lawful.{IsLawful};
-ghost use Rattle.wt_symbol.specs.Sides.{pair_of, tree_of};
-ghost use Rattle.wt_prover.specs.SideTowers.{IsTower};
-
+//! What the prover proves, the rules of a pair, and their lines.
 use crate::tests::lawful;
 use std::alloc::{AllocError, Global};
 use std::test::Fail;
 use wt_constraint::{AtomSet, atoms_of, full};
-use wt_discover::towers::lines_of_pairs;
-use wt_prover::{is_tower, prove};
-use wt_relax::rules_of_pair;
-use wt_symbol::Pair;
+use wt_cores::rules_of_pair;
+use wt_discover::lines_of_pairs;
+use wt_form::Prover;
+use wt_search::Search;
 
-/// The pair, if it is a lawful one of towers.
-fn towers(alloc: Global, text: &str) -> Result<Option<Pair>, AllocError>
-    ensures lawful { IfOk result (λ found. IfSome found (λ p. IsLawful (pair_of p))) }
-    ensures source { IfOk result (λ found. IfSome found (λ p. IsTower (tree_of p.source))) }
-    ensures dest { IfOk result (λ found. IfSome found (λ p. IsTower (tree_of p.dest))) }
-{
+/// Whether a pair is provable under the set of all its atoms, and under the empty one.
+fn proved(alloc: Global, text: &str) -> Result<Option<(bool, bool)>, AllocError> {
     let Some(pair) = lawful(alloc, text)? else {
         return Ok(None);
     };
-    if !is_tower(&pair.source) || !is_tower(&pair.dest) {
-        return Ok(None);
-    }
-    Ok(Some(pair))
-}
-
-/// Whether a pair of towers is provable under the set of all its atoms, and under the empty one.
-fn proved(alloc: Global, text: &str) -> Result<Option<(bool, bool)>, AllocError> {
-    let Some(pair) = towers(alloc, text)? else {
-        return Ok(None);
-    };
     let all = full(&atoms_of(alloc, &pair)?);
-    let under_all = prove(alloc, &pair, all, 8)?;
-    let under_none = prove(alloc, &pair, AtomSet(0), 8)?;
+    let under_all = Search {}.prove(alloc, &pair, all, 8)?;
+    let under_none = Search {}.prove(alloc, &pair, AtomSet(0), 8)?;
     Ok(Some((under_all, under_none)))
 }
 
@@ -56,10 +36,10 @@ fn pairs_are_proved_exactly_where_provable(rt: HostRuntime) -> Result<(), Fail> 
 }
 
 fn has_rules(alloc: Global, text: &str, expected: &str) -> Result<bool, AllocError> {
-    let Some(pair) = towers(alloc, text)? else {
+    let Some(pair) = lawful(alloc, text)? else {
         return Ok(false);
     };
-    let rules = rules_of_pair(alloc, &pair, 64, 8)?;
+    let rules = rules_of_pair(&Search {}, alloc, &pair, 64, 8)?;
     let found = format!(in alloc; "{:?}", rules.as_slice())?;
     Ok(found.as_str() == expected)
 }
@@ -80,17 +60,17 @@ fn pairs_have_the_least_sets(rt: HostRuntime) -> Result<(), Fail> {
 }
 
 fn has_lines(alloc: Global, text: &str, expected: &str) -> Result<bool, AllocError> {
-    let Some(pair) = towers(alloc, text)? else {
+    let Some(pair) = lawful(alloc, text)? else {
         return Ok(false);
     };
     let pairs = [pair];
-    let lines = lines_of_pairs(alloc, &pairs, 64, 8)?;
+    let lines = lines_of_pairs(&Search {}, alloc, &pairs, 64, 8)?;
     let count = if expected.is_empty() { 0 } else { 1 };
     Ok(lines.text.as_slice() == expected.as_bytes() && lines.count == count)
 }
 
 #[test]
-fn rules_of_filters_and_dedups_have_lines(rt: HostRuntime) -> Result<(), Fail> {
+fn rules_have_lines(rt: HostRuntime) -> Result<(), Fail> {
     for (text, expected) in [
         (
             "r0 F11 F00 | r0 F01 |00",

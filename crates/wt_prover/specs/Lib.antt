@@ -1,4 +1,0 @@
-pub mod Sames
-pub mod Towers
-pub mod TowerSteps
-pub mod SideTowers

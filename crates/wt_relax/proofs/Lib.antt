@@ -1,2 +1,0 @@
-pub mod Less
-pub mod Levels

@@ -172,8 +172,8 @@ fn refuses_statements(rt: HostRuntime) -> Result<(), Fail> {
             b"SELECT t.a FROM t WHERE t.a = 1;".as_slice(),
             b"-- refused NotBuilt at 0\n".as_slice(),
         ),
-        (b" SELECT t.c FROM t;", b"-- refused NotBuilt at 1\n"),
-        (b"SELECT u.a FROM t;", b"-- refused NotBuilt at 0\n"),
+        (b" SELECT t.c FROM t;", b"-- refused UnknownColumn at 8\n"),
+        (b"SELECT u.a FROM t;", b"-- refused UnknownColumn at 7\n"),
         (b"SELECT a FROM t;", b"-- refused NotBuilt at 0\n"),
         (b"SELECT t.a AS b FROM t;", b"-- refused NotBuilt at 0\n"),
         (

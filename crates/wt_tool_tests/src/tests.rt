@@ -172,8 +172,8 @@ fn refuses_statements(rt: HostRuntime) -> Result<(), Fail> {
             b"SELECT t.a FROM t WHERE t.a = 1;".as_slice(),
             b"-- refused NotBuilt at 0\n".as_slice(),
         ),
-        (b" SELECT t.c FROM t;", b"-- refused NotBuilt at 1\n"),
-        (b"SELECT u.a FROM t;", b"-- refused NotBuilt at 0\n"),
+        (b" SELECT t.c FROM t;", b"-- refused UnknownColumn at 8\n"),
+        (b"SELECT u.a FROM t;", b"-- refused UnknownColumn at 7\n"),
         (b"SELECT a FROM t;", b"-- refused NotBuilt at 0\n"),
         (b"SELECT t.a AS b FROM t;", b"-- refused NotBuilt at 0\n"),
         (
@@ -255,6 +255,13 @@ Filter<p0,a0@r0>(Filter<p1,a1@r0>(r0)) => Filter<p1,a0>(r0) | AttrsEq(a0,a1) Pre
 Filter<p0,a0@r0>(Filter<p1,a1@r0>(r0)) => Filter<p1,a1>(r0) | AttrsEq(a0,a1) PredEq(p0,p1) | 2 1
 ";
 
+const JOIN_RULES: &str =
+    "LeftJoin<a0@r0,a1@r1>(r0,r1) => InnerJoin<a0,a1>(r0,r1) | NotNull(r0,a0) RefAttrs(r0,a0,r1,a1) | 7 6
+LeftJoin<a0@r0,a1@r1>(r0,r1) => InnerJoin<a0,a1>(r0,r1) | RelEq(r0,r1) AttrsEq(a0,a1) NotNull(r1,a1) RefAttrs(r0,a0,r1,a1) | 7 6
+LeftJoin<a0@r0,a1@r1>(r0,r1) => InnerJoin<a1,a0>(r1,r0) | RelEq(r0,r1) AttrsEq(a0,a1) NotNull(r0,a0) RefAttrs(r0,a0,r1,a1) | 7 6
+LeftJoin<a0@r0,a1@r1>(r0,r1) => InnerJoin<a1,a0>(r1,r0) | RelEq(r0,r1) AttrsEq(a0,a1) NotNull(r1,a1) RefAttrs(r0,a0,r1,a1) | 7 6
+";
+
 const DEDUP_RULE: &str = "Dedup(Dedup(r0)) => Dedup(r0) | - | 6 3\n";
 
 const FOUR_DEDUP_RULES: &str = "Dedup(Dedup(r0)) => Dedup(r0) | - | 6 3
@@ -293,6 +300,7 @@ fn discovers_rules(rt: HostRuntime) -> Result<(), Fail> {
             3,
         ),
         ("discover src=1 dst=0 ops=FD", "", "", 0),
+        ("discover src=1 dst=1 ops=PFILSD", JOIN_RULES, "", 4),
     ] {
         assert!(rt; discovers(&rt, words, filters, dedups, count)?, "{words}");
     }
@@ -311,7 +319,6 @@ fn refuses_words(rt: HostRuntime) -> Result<(), Fail> {
         ("discover src=5 dst=1 ops=D", b"usage OutOfRange\n"),
         ("discover src=2 ops=D", b"usage MissingKey\n"),
         ("discover src=2 dst=1 ops=DD", b"usage BadOps\n"),
-        ("discover src=2 dst=1 ops=P", b"usage NotBuilt\n"),
         ("discover src=2 dst=1 ops=D workers=2", b"usage NotBuilt\n"),
     ] {
         assert!(rt; says(&rt, words, 0, 0, 1, written)?, "{words}");

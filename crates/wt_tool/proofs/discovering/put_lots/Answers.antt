@@ -1,12 +1,29 @@
-use Rattle.std.proofs.Common.{◌≡◌, ◌+◌, ◌-◌, ◌^◌, min, map, rules}
+use Rattle.std.proofs.Common.{◌≡◌, ◌+◌, ◌-◌, ◌^◌, min, map, rules, subst, sym, take, [], arith}
+use Rattle.std.specs.Prelude.{All}
+use Rattle.wt_symbol.specs.Lawful.{IsLawful}
 use Rattle.std.specs.Io.KnownBytes.{append_known}
 use Rattle.std.proofs.lemmas.Result.{err_from_is_err_and}
 use Rattle.wt_discover.specs.Files.{AreCounted}
+use Rattle.wt_discover.proofs.Counted.{none_counted}
+use Rattle.wt_pair.specs.Candidates.{pairs_of}
 use Rattle.wt_pair.specs.Lots.{IsNextLot}
 use Rattle.wt_symbol.specs.Sides.{pair_of}
-use Rattle.wt_tool.proofs.Putting.{rose_since}
+use Rattle.wt_tool.proofs.Putting.{append_known-nil, rose_since}
 use Rattle.wt_tool.proofs.RuleLines.{fewer_left, next_pairs, so_far_next, stops_here, stops_in_lot}
 use Rattle.wt_tool.proofs.discovering.put_lots.Goals as goal
+
+pub lots-init : goal.lots-init
+lots-init g c =
+    let first : c.new-pairs.result.first ≡ 0 = search rules in
+    record {
+      bounds = search rules;
+      so_far = record {
+        lines = [];
+        are = subst (λ k. AreCounted c.args.bounds.now.steps c.args.bounds.now.depth (take k (pairs_of c.args.bounds.now)) [] 0) (sym first) (none_counted c.args.bounds.now.steps c.args.bounds.now.depth);
+        put = sym (append_known-nil (g.K.Sink.written c.args.sink.now));
+      };
+      later = omega arith;
+    }
 
 pub returns-in_err-lot-clause-puts : goal.returns-in_err-lot-clause-puts
 returns-in_err-lot-clause-puts g c =
@@ -17,7 +34,7 @@ pub lines_of_pairs-requires : goal.lines_of_pairs-requires
 lines_of_pairs-requires g c =
     let next : IsNextLot c.lots.pairs c.next_lot.new.self c.in-Some.lot = search rules in
     let items : c.as_slice.result.now ≡ c.in-Some.lot.pairs = search rules in
-    rw items next.lawful
+    record { lawful = subst (λ ps. All (λ p. IsLawful (pair_of p)) ps) (sym items) next.lawful }
 
 pub returns-in_err-lines-clause-puts : goal.returns-in_err-lines-clause-puts
 returns-in_err-lines-clause-puts g c =

@@ -1,4 +1,3 @@
-pub mod ItemLaws
 pub mod Putting
 pub mod Files
 pub mod LinesOf

@@ -1,97 +1,91 @@
--- The laws on queries over one table.
-use Rattle.std.proofs.Common.{◌≡◌, ◌∙◌, ℕ, Bool, true, false, ◌&&◌, List, [], ◌∷◌, map, filter, refl, ap, sym, codes}
-use Rattle.std.specs.Prelude.{Some, None, is_some, slice_get, unwrap_or, option_and_then, flat_map, if◌then◌else◌}
-use Rattle.std.specs.List.{list_all}
+-- The query that is printed for a statement has its rows and its names, and is printed as itself.
+use Rattle.std.proofs.Common.{◌≡◌, ◌∙◌, ℕ, zero, suc, ◌<◌, Bool, true, false, List, [], ◌∷◌, length, refl, sym, ap, arith}
+use Rattle.std.specs.Prelude.{None, slice_index_or, if◌then◌else◌}
 use Rattle.std.specs.Str.{bytes_eq}
-use Rattle.std.specs.declared.option.Option.{Option}
-use Rattle.wt_ast.specs.Tree.{QueryTree, select, table, no_filter}
-use Rattle.wt_ast.specs.declared.tree.ColumnName.{ColumnName}
-use Rattle.wt_ast.specs.declared.tree.Item.{Item}
-use Rattle.wt_ast.specs.declared.tree.Item.TheVariants as items
-use Rattle.wt_bag.specs.Bags.{count_of}
+use Rattle.wt_bag.specs.Bags.{Each, count_of}
+use Rattle.wt_bag.proofs.EachLaws.{each_implies}
+use Rattle.wt_ast.specs.Tree.{QueryTree}
+use Rattle.wt_value.specs.Values.{Tuple, IsOneBag, row_same}
+use Rattle.wt_schema.specs.declared.schema.Column as schema
 use Rattle.wt_schema.specs.declared.schema.Table.{Table}
-use Rattle.wt_value.specs.Values.{Tuple, row_same}
-use Rattle.wt_value.specs.declared.value.Value.{Value}
-use Rattle.wt_value.specs.declared.value.Value.TheVariants.{Null}
-use Rattle.wt_query_rows.specs.declared.scope.ScopeColumn.{ScopeColumn}
-use Rattle.wt_query_rows.specs.Scopes.{alias_fits, in_scope, item_names, columns_named, column_names}
-use Rattle.wt_query_rows.specs.Rows.{named, value_of, item_values, chosen, query_rows, table_rows}
-use Rattle.wt_tool.specs.Laws.{KeepsNames, KeepsRows}
-use Rattle.wt_tool.specs.Queries.{are_items_of, column_place, is_item_of, is_rewritable, item_rewritten, rewritten, table_place, is_plain}
+use Rattle.wt_schema.specs.Satisfying.{Satisfies, RowFits}
+use Rattle.wt_plan.specs.Tree.{PlanTree}
+use Rattle.wt_plan.specs.Measures.{width}
+use Rattle.wt_plan.specs.Regular.{Regular}
+use Rattle.wt_plan.specs.Rows.{plan_rows}
+use Rattle.wt_place.specs.Placing.{placed}
+use Rattle.wt_place.proofs.NarrowKept.{width_placed}
+use Rattle.wt_place.proofs.Regularity.{regular_placed}
+use Rattle.wt_query_rows.specs.Scopes.{columns_named, output_names}
+use Rattle.wt_query_rows.specs.Rows.{query_rows, table_rows}
+use Rattle.wt_query_plan.specs.Building.{planned}
+use Rattle.wt_query_plan.specs.Faults.{query_fault}
+use Rattle.wt_query_plan.specs.Standing.{RowsFit}
+use Rattle.wt_query_plan.proofs.InRange.{built_law}
+use Rattle.wt_query_bounds.proofs.Narrowing.{query_width}
+use Rattle.wt_regular.proofs.Regulars.{regular_plan}
+use Rattle.wt_known.proofs.Lists.{each_from_all}
+use Rattle.wt_known.proofs.UniqueFacts.{length_row}
+use Rattle.wt_blocks.specs.Printed.{printed}
+use Rattle.wt_blocks.proofs.Root.{printed_fine, printed_plan, printed_names}
+use Rattle.wt_blocks.proofs.Settled.{placed_twice}
+use Rattle.wt_tool.specs.Laws.{IsAccepted, KeepsNames, KeepsRows, PrintsItself}
+use Rattle.wt_tool.specs.Queries.{plan_of, rewritten}
 
--- two tests that hold together hold each
-both_hold : (a b : Bool) → (a && b) ≡ true → (a ≡ true) × (b ≡ true)
-both_hold true b h = (refl, h)
-both_hold false b h = absurd cc
+-- the rows of a database that satisfies the schema are as wide as its tables
+rows_wide : (ts : List Table) (rs : List (List Tuple)) → ((k : ℕ) (t : Table) → k < length ts → Each (RowFits (slice_index_or ts k t).columns) (slice_index_or rs k [])) → (name : List ℕ)
+    → Each (λ row. length row ≡ length (columns_named ts name)) (table_rows ts rs name)
+rows_wide [] rs h name = tt
+rows_wide (t ∷ ts) [] h name = tt
+rows_wide (t ∷ ts) (rows ∷ rs) h name =
+    here (bytes_eq t.name name) (each_implies (RowFits t.columns) (λ row. length row ≡ length t.columns) rows (λ row fits. length_row t.columns row fits) (h 0 t (omega arith)))
+    (rows_wide ts rs (λ k d lt. h (suc k) d (omega (arith, lt))) name)
+  where
+    here : (b : Bool) → Each (λ row. length row ≡ length t.columns) rows → Each (λ row. length row ≡ length (columns_named ts name)) (table_rows ts rs name)
+        → Each (λ row. length row ≡ length (if b then t.columns else columns_named ts name)) (if b then rows else table_rows ts rs name)
+    here true own others = own
+    here false own others = others
 
--- the value under the first column of a name
-value_by : List (List ℕ) → Tuple → List ℕ → Value
-value_by [] row name = Null
-value_by (n ∷ ns) [] name = Null
-value_by (n ∷ ns) (v ∷ row) name = if bytes_eq name n then v else value_by ns row name
+rows_fit : (tables : List Table) (base : List (List Tuple)) → Satisfies tables base → RowsFit tables base
+rows_fit tables base holds = rows_wide tables base (λ k t lt. each_from_all _ _ (holds.each k t lt).rows_fit)
 
--- where all columns are of one alias, which the column's qualifier fits, its value is found by its name
-found_by_name : (alias : List ℕ) (c : ColumnName) → alias_fits c.table alias ≡ true → (ns : List (List ℕ)) (row : Tuple) → value_of (named (map (in_scope alias) ns) row) c ≡ value_by ns row c.name
-unfolding value_by
-found_by_name alias c h [] row = refl
-found_by_name alias c h (n ∷ ns) [] = refl
-found_by_name alias c h (n ∷ ns) (v ∷ row) = rw h (rw (found_by_name alias c h ns row) refl)
+module _ (tables : List Table) (query : QueryTree) (accepted : IsAccepted tables query) where
+  regular : Regular tables (plan_of tables query)
+  regular = regular_placed tables (planned tables query) (regular_plan tables accepted.schema query accepted.lawful accepted.faultless)
 
--- an item that speaks of the table by its name fits its columns where no alias is written
-fits_name : (qualifier : Option (List ℕ)) (name : List ℕ) → bytes_eq (unwrap_or qualifier []) name ≡ true → alias_fits qualifier name ≡ true
-fits_name None name h = refl
-fits_name (Some qualifier) name h = h
+  many : length (output_names tables query) ≡ width (plan_of tables query)
+  many = sym (width_placed (planned tables query) ∙ query_width tables query [] accepted.faultless)
 
-module _ (t : Table) (name : List ℕ) (ns : List (List ℕ)) (row : Tuple) where
-  value_kept : (item : Item) → is_item_of t name item ≡ true → item_values (named (map (in_scope (codes "q0")) ns) row) (item_rewritten item) ≡ item_values (named (map (in_scope name) ns) row) item
-  value_kept (items.Column column None) h =
-      let parts = both_hold (bytes_eq (unwrap_or column.table []) name && is_some (column_place t column.name)) (is_plain column.name) h in
-      let qualified = both_hold (bytes_eq (unwrap_or column.table []) name) (is_some (column_place t column.name)) parts.0 in
-      let before = found_by_name name column (fits_name column.table name qualified.0) ns row in
-      let after = found_by_name (codes "q0") (record { table = Some (codes "q0"); name = column.name; at = column.at }) refl ns row in
-      ap (λ v. v ∷ []) (after ∙ sym before)
-  value_kept (items.Column column (Some output)) h = absurd cc
-  value_kept (items.Star at) h = absurd cc
-  value_kept (items.AllOf alias at) h = absurd cc
+  no_fault : query_fault tables [] (rewritten tables query) ≡ None
+  no_fault = printed_fine tables accepted.schema (plan_of tables query) regular (output_names tables query) many _
 
-  values_kept : (wanted : List Item) → list_all (is_item_of t name) wanted ≡ true → chosen (map item_rewritten wanted) (named (map (in_scope (codes "q0")) ns) row) ≡ chosen wanted (named (map (in_scope name) ns) row)
-  values_kept [] h = refl
-  values_kept (item ∷ others) h =
-      let parts = both_hold (is_item_of t name item) (list_all (is_item_of t name) others) h in
-      rw (value_kept item parts.0) (rw (values_kept others parts.1) refl)
+  same_plan : plan_of tables (rewritten tables query) ≡ plan_of tables query
+  same_plan = printed_plan tables accepted.schema (plan_of tables query) regular (output_names tables query) many ∙ placed_twice (planned tables query)
 
--- the table that the statement names
-listed_items : (name : List ℕ) (wanted : List Item) (found : Option Table) → are_items_of name wanted found ≡ true → (t : Table) × (list_all (is_item_of t name) wanted ≡ true)
-listed_items name wanted None h = absurd cc
-listed_items name wanted (Some t) h = (t, h)
+  same_names : output_names tables (rewritten tables query) ≡ output_names tables query
+  same_names = printed_names tables accepted.schema (plan_of tables query) regular (output_names tables query) many
 
-module _ (t : Table) (name : List ℕ) (wanted : List Item) (ns : List (List ℕ)) (all : list_all (is_item_of t name) wanted ≡ true) where
-  rows_kept : (rows : List Tuple) → map (chosen (map item_rewritten wanted)) (filter (λ row. true) (map (named (map (in_scope (codes "q0")) ns)) rows)) ≡ map (chosen wanted) (filter (λ row. true) (map (named (map (in_scope name) ns)) rows))
-  rows_kept [] = refl
-  rows_kept (row ∷ rows) = rw (values_kept t name ns row wanted all) (rw (rows_kept rows) refl)
-
-same_rows : (tables : List Table) (base : List (List Tuple)) (query : QueryTree) → is_rewritable tables query ≡ true → query_rows tables base (rewritten query) ≡ query_rows tables base query
-same_rows tables base (select false wanted (table name None at alias_at) no_filter) h =
-    let of_one = both_hold (is_plain name) (are_items_of name wanted (option_and_then (slice_get tables) (table_place tables name))) h in
-    let found = listed_items name wanted (option_and_then (slice_get tables) (table_place tables name)) of_one.1 in
-    rows_kept found.0 name wanted (column_names (columns_named tables name)) found.1 (table_rows tables base name)
-same_rows tables base _ h = absurd cc
+  same_rows : (base : List (List Tuple)) → Satisfies tables base → IsOneBag (query_rows tables base (rewritten tables query)) (query_rows tables base query)
+  same_rows base holds =
+      let printed_bag = built_law base tables (rows_fit tables base holds) (rewritten tables query) no_fault in
+      let own_bag = built_law base tables (rows_fit tables base holds) query accepted.faultless in
+      both_bags base printed_bag own_bag
+    where
+      both_bags : (base : List (List Tuple)) → IsOneBag (query_rows tables base (rewritten tables query)) (plan_rows base (plan_of tables (rewritten tables query))) → IsOneBag (query_rows tables base query) (plan_rows base (plan_of tables query))
+          → IsOneBag (query_rows tables base (rewritten tables query)) (query_rows tables base query)
+      both_bags base one two = record { counts = λ row. one.counts row ∙ ap (λ (p : PlanTree). count_of row_same (plan_rows base p) row) same_plan ∙ sym (two.counts row) }
 
 pub keeps_rows : KeepsRows
-keeps_rows tables base query database h = record { counts = λ row. ap (λ rows. count_of row_same rows row) (same_rows tables base query h) }
-
--- each item gives the name under which it stood
-names_kept : (t : Table) (name : List ℕ) (before after : List ScopeColumn) (wanted : List Item) → list_all (is_item_of t name) wanted ≡ true → flat_map (item_names after) (map item_rewritten wanted) ≡ flat_map (item_names before) wanted
-names_kept t name before after [] h = refl
-names_kept t name before after (items.Column column None ∷ others) h =
-    ap (λ names. column.name ∷ names) (names_kept t name before after others (both_hold (is_item_of t name (items.Column column None)) (list_all (is_item_of t name) others) h).1)
-names_kept t name before after (items.Column column (Some output) ∷ others) h = absurd cc
-names_kept t name before after (items.Star at ∷ others) h = absurd cc
-names_kept t name before after (items.AllOf alias at ∷ others) h = absurd cc
+keeps_rows tables base query accepted holds = same_rows tables query accepted base holds
 
 pub keeps_names : KeepsNames
-keeps_names tables (select false wanted (table name None at alias_at) no_filter) h =
-    let of_one = both_hold (is_plain name) (are_items_of name wanted (option_and_then (slice_get tables) (table_place tables name))) h in
-    let found = listed_items name wanted (option_and_then (slice_get tables) (table_place tables name)) of_one.1 in
-    names_kept found.0 name (map (in_scope name) (column_names (columns_named tables name))) (map (in_scope (codes "q0")) (column_names (columns_named tables name))) wanted found.1
-keeps_names tables _ h = absurd cc
+keeps_names tables query accepted = same_names tables query accepted
+
+pub prints_itself : PrintsItself
+prints_itself tables query accepted = (
+  no_fault tables query accepted,
+  both tables (plan_of tables (rewritten tables query)) (plan_of tables query) (output_names tables (rewritten tables query)) (output_names tables query) (same_plan tables query accepted) (same_names tables query accepted),
+)
+  where
+    both : (tables : List Table) (p q : PlanTree) (ns ms : List (List ℕ)) → p ≡ q → ns ≡ ms → printed tables p ns ≡ printed tables q ms
+    both tables p q ns ms e f = ap (λ z. printed tables z ns) e ∙ ap (printed tables q) f

@@ -7,7 +7,7 @@ use Rattle.std.proofs.lemmas.List.{take-append-drop, map-append}
 use Rattle.std.proofs.lemmas.Grind.{flat_map-append}
 use Rattle.std.proofs.lemmas.Option.{slice_get_cases}
 use Rattle.wt_ast.specs.Tree.{QueryTree}
-use Rattle.wt_grammar.specs.Statements.{Statement, answer, begin}
+use Rattle.wt_grammar.specs.Statements.{Statement, answer}
 use Rattle.wt_schema.specs.declared.schema.Table.{Table}
 use Rattle.wt_tool.specs.declared.line.Line.{Line}
 use Rattle.wt_io.proofs.Written.{append_known-twice}
@@ -22,9 +22,9 @@ pub if_ok : {T E : Type 0} (r : Result T E) (P Q : T → Type 0) → ((x : T) �
 if_ok (Ok x) P Q f h = f x h
 if_ok (Err e) P Q f h = tt
 
-pub line_read : (tables : List Table) (bytes : List ℕ) (s : Statement) (at : ℕ) (tree : QueryTree) (line : Line)
-    → answer bytes s ≡ Ok tree → at ≡ begin s s.tokens → line ≡ tree_line tables at tree → line ≡ statement_line tables bytes s
-line_read tables bytes s at tree line read begins is = is ∙ (ap (λ n. tree_line tables n tree) begins ∙ ap (answer_line tables (begin s s.tokens)) (sym read))
+pub line_read : (tables : List Table) (bytes : List ℕ) (s : Statement) (tree : QueryTree) (line : Line)
+    → answer bytes s ≡ Ok tree → line ≡ tree_line tables tree → line ≡ statement_line tables bytes s
+line_read tables bytes s tree line read is = is ∙ ap (answer_line tables) (sym read)
 
 -- there is an element at a place within a list
 pub some_at : {A : Type 0} (xs : List A) (i : ℕ) → i < length xs → (x : A) × (slice_get xs i ≡ Some x)

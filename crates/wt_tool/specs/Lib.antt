@@ -4,8 +4,6 @@ pub mod Outcomes
 pub mod Words
 pub mod FaultNames
 pub mod Queries
-pub mod Printing
-pub mod LineItems
 pub mod Rewriting
 pub mod Laws
 pub mod Discovering

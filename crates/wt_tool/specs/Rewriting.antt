@@ -9,7 +9,7 @@ use Rattle.wt_ast.specs.Tree.{QueryTree}
 use Rattle.wt_ddl.specs.Schemas.{schema_of}
 use Rattle.wt_ddl.specs.Refusals as ddl
 use Rattle.wt_grammar.specs.Reading.{Refusal, refused, odd}
-use Rattle.wt_grammar.specs.Statements.{File, Statement, Answer, answer, begin, file_of}
+use Rattle.wt_grammar.specs.Statements.{File, Statement, Answer, answer, file_of}
 use Rattle.wt_lex.specs.declared.token.LexFault.{LexFault}
 use Rattle.wt_query_plan.specs.Faults.{Fault, query_fault}
 use Rattle.wt_schema.specs.declared.schema.Table.{Table}
@@ -19,8 +19,8 @@ use Rattle.wt_tool.specs.declared.line.Line.{Line}
 use Rattle.wt_tool.specs.FaultNames.{build_name, lexical_name, schema_name, query_name}
 use Rattle.wt_tool.specs.declared.stop.Stop.{Stop}
 use Rattle.wt_tool.specs.Outcomes.{Outcome, Stops}
-use Rattle.wt_tool.specs.Printing.{query_text}
-use Rattle.wt_tool.specs.Queries.{is_rewritable, rewritten}
+use Rattle.wt_spelling.specs.Spelling.{statement_text}
+use Rattle.wt_tool.specs.Queries.{rewritten}
 use Rattle.wt_tool.specs.Words.{Names}
 
 -- a text with its line end
@@ -50,26 +50,28 @@ too_long name = fault_at name 16777216 (codes "TooLong")
 abbrev pub refusal_line : List ℕ → ℕ → Line
 refusal_line kind at = record { text = codes "-- refused " ++ (kind ++ (codes " at " ++ (decimal at ++ 10 ∷ []))); refused = true }
 
--- a statement that begins at this offset and is not printed: its first fault, where it has one
-abbrev pub unbuilt_line : ℕ → Fault → Line
-unbuilt_line at None = refusal_line (codes "NotBuilt") at
-unbuilt_line at (Some (fault, place)) = refusal_line (build_name fault) place
+-- the query that is printed, with its line end
+abbrev pub printed_line : QueryTree → Line
+printed_line query = record { text = ended (statement_text query); refused = false }
 
--- a statement that begins at this offset, as it is read
-abbrev pub tree_line : List Table → ℕ → QueryTree → Line
-tree_line tables at tree =
-    if is_rewritable tables tree then record { text = ended (query_text (rewritten tree)); refused = false } else unbuilt_line at (query_fault tables [] tree)
+-- a statement that was read: its first fault, or else the query that is printed for it
+abbrev pub tree_line : List Table → QueryTree → Line
+tree_line tables tree = told_line (query_fault tables [] tree)
+  where
+    told_line : Fault → Line
+    told_line None = printed_line (rewritten tables tree)
+    told_line (Some (fault, place)) = refusal_line (build_name fault) place
 
 abbrev pub refusal_name : Refusal → List ℕ
 refusal_name (refused fault) = query_name fault
 refusal_name (odd fault) = lexical_name fault
 
-abbrev pub answer_line : List Table → ℕ → Answer → Line
-answer_line tables at (Ok tree) = tree_line tables at tree
-answer_line tables at (Err (refusal, place)) = refusal_line (refusal_name refusal) place
+abbrev pub answer_line : List Table → Answer → Line
+answer_line tables (Ok tree) = tree_line tables tree
+answer_line tables (Err (refusal, place)) = refusal_line (refusal_name refusal) place
 
 abbrev pub statement_line : List Table → List ℕ → Statement → Line
-statement_line tables bytes s = answer_line tables (begin s s.tokens) (answer bytes s)
+statement_line tables bytes s = answer_line tables (answer bytes s)
 
 -- a line for each statement, in order; the status is 4 where one of them was refused
 abbrev pub file_lines : List Table → File → List Line

@@ -3,7 +3,6 @@
 
 mod discovering;
 mod fault_names;
-mod form;
 mod input;
 mod line;
 mod put;

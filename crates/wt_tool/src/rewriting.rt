@@ -88,7 +88,7 @@ fn statement_line(
     ensures { IfOk result (λ line. (s : Statement) → slice_get queries.now.statements n ≡ Some s → line ≡ spec.statement_line schema.now.tables queries.now.bytes s) }
 {
     match queries.get(alloc, n) {
-        Ok(query) => query_line(alloc, schema, &query, queries.begin(n)),
+        Ok(query) => query_line(alloc, schema, &query),
         Err(QueryError::Refused(fault, at)) => refusal_line(alloc, query_name(fault), at),
         Err(QueryError::Lex(fault, at)) => refusal_line(alloc, lexical_name(fault), at),
         Err(QueryError::Memory) => Err(AllocError),

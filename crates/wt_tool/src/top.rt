@@ -2,7 +2,7 @@
 ghost use Rattle.std.specs.Prelude.{◌≡◌, ◌≢◌, ◌≤◌, ◌⊎◌, IsErr, map, string_bytes};
 ghost use Rattle.wt_io.specs.Causes.{Rose};
 ghost use Rattle.wt_tool.specs.Answers.{Answers, RunOutcome, usage};
-ghost use Rattle.wt_tool.specs.Laws.{KeepsNames, KeepsRows, RulesHaveOneBag};
+ghost use Rattle.wt_tool.specs.Laws.{KeepsNames, KeepsRows, PrintsItself, RulesHaveOneBag};
 ghost use Rattle.wt_tool.specs.Outcomes.{AppendsPrefix, Ends, Writes};
 ghost use Rattle.wt_tool.specs.Words.{command_of};
 
@@ -90,9 +90,12 @@ pub fn wetune<R: Threads + Wait + Sync, S: Store, K: Sink, G: Gate + Sync>(
     // What a rule of a written file means.
     ensures one_bag { RulesHaveOneBag }
 
-    // What a rewritten query has in common with its statement, on every database that satisfies the schema.
+    // What the query that is printed has in common with its statement, on every database that satisfies the schema.
     ensures rows { KeepsRows }
     ensures names { KeepsNames }
+
+    // It is accepted as well, and printed as itself.
+    ensures itself { PrintsItself }
 {
     run(alloc, words, store, sink)
 }

@@ -1,5 +1,5 @@
 use Rattle.wt_tool.proofs.Statuses.{bytes_of, usage_only, usage_where, read_of, write_of, prefix_of, status_known}
-use Rattle.wt_tool.proofs.QueryLaws.{keeps_rows, keeps_names}
+use Rattle.wt_tool.proofs.QueryLaws.{keeps_rows, keeps_names, prints_itself}
 use Rattle.wt_tool.proofs.RuleBags.{rules_have_one_bag}
 use Rattle.wt_tool.proofs.top.wetune.Goals as goal
 
@@ -32,3 +32,6 @@ returns-clause-names g c = keeps_names
 
 pub returns-clause-one_bag : goal.returns-clause-one_bag
 returns-clause-one_bag g c = rules_have_one_bag
+
+pub returns-clause-itself : goal.returns-clause-itself
+returns-clause-itself g c = prints_itself

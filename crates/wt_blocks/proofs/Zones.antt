@@ -67,14 +67,12 @@ module _ (S : List Table) where
       each_map (Numbered n (n + (1 + block_items b))) (in_scope (alias_of n)) (place_names (block_width b)) (each_for (place_names (block_width b)) (λ m. (n, omega arith, omega arith, refl)))
   numbered n (kept q cols z) = numbered n z
   numbered n (member cols z b) = numbered n z
-  numbered n (inner_join a b l r) = both n l r (from_items l + from_items r) (omega arith)
-    where
-      both : (n : ℕ) (l r : Zone) (k : ℕ) → from_items l + from_items r ≤ k → Each (Numbered n (n + k)) (zone_columns S n l ++ zone_columns S (n + from_items l) r)
-      both n l r k few =
-          each_append (Numbered n (n + k)) (zone_columns S n l) (zone_columns S (n + from_items l) r)
-          (each_implies (Numbered n (n + from_items l)) (Numbered n (n + k)) (zone_columns S n l) (λ s h. lower n (n + from_items l) n (n + k) s (omega arith) (omega (arith, few)) h) (numbered n l))
-          (each_implies (Numbered (n + from_items l) ((n + from_items l) + from_items r)) (Numbered n (n + k)) (zone_columns S (n + from_items l) r)
-          (λ s h. lower (n + from_items l) ((n + from_items l) + from_items r) n (n + k) s (omega arith) (omega (arith, few)) h) (numbered (n + from_items l) r))
+  numbered n (inner_join a b l r) =
+      let k = from_items l + from_items r in
+      each_append (Numbered n (n + k)) (zone_columns S n l) (zone_columns S (n + from_items l) r)
+      (each_implies (Numbered n (n + from_items l)) (Numbered n (n + k)) (zone_columns S n l) (λ s h. lower n (n + from_items l) n (n + k) s (omega arith) (omega arith) h) (numbered n l))
+      (each_implies (Numbered (n + from_items l) ((n + from_items l) + from_items r)) (Numbered n (n + k)) (zone_columns S (n + from_items l) r)
+      (λ s h. lower (n + from_items l) ((n + from_items l) + from_items r) n (n + k) s (omega arith) (omega arith) h) (numbered (n + from_items l) r))
   numbered n (left_join a b l r) =
       let k = from_items l + (from_items r + condition_items r) in
       each_append (Numbered n (n + k)) (zone_columns S n l) (zone_columns S (n + from_items l) r)

@@ -5,3 +5,4 @@ pub mod Numbering
 pub mod Tested
 pub mod Tables
 pub mod Zones
+pub mod Conjuncts

@@ -6,3 +6,4 @@ pub mod Tested
 pub mod Tables
 pub mod Zones
 pub mod Conjuncts
+pub mod Planned

@@ -223,7 +223,7 @@ pair_conjuncts_of S lefts rights d (x ∷ a) (y ∷ b) h k =
     let second = place_there (lefts ++ rights) d (length lefts) rights (stands_second lefts rights) y k.0 in
     λ i. keeps (preds.compare signs.Eq (operands.Column (first i)) (operands.Column (second i))) ∷ pair_conjuncts_of S lefts rights d a b h.1 k.1 i
 
-one_pair : (n x y : ℕ) → x < n → across n x (n + y) ≡ Some (x, y)
+pub one_pair : (n x y : ℕ) → x < n → across n x (n + y) ≡ Some (x, y)
 one_pair n x y l =
     let e : (n + y) - n ≡ y = omega arith in
     (λ i. cond (lt-ltb x n l i && not (le-ltb (n + y) n (omega arith) i)) (Some (x, (n + y) - n)) (cond (nat_lt (n + y) n && not (nat_lt x n)) (Some (n + y, x - n)) None))

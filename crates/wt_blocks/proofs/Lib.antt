@@ -7,3 +7,4 @@ pub mod Tables
 pub mod Zones
 pub mod Conjuncts
 pub mod Planned
+pub mod Faults

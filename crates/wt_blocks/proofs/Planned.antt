@@ -28,7 +28,7 @@ use Rattle.wt_blocks.proofs.Numbering.{places_upto}
 use Rattle.wt_blocks.proofs.Tested.{places_there, test_resolved}
 use Rattle.wt_blocks.proofs.Tables.{known}
 use Rattle.wt_blocks.proofs.Zones.{columns_width, columns_apart, scope_there, no_right, all_free, in_text_order}
-use Rattle.wt_blocks.proofs.Conjuncts.{as_conjunct, all_of, conjuncts_together, conjuncts_where, conjuncts_append, test_conjunct, stacked_again, conditions_stand, lowered_again, none_pairs, pair_conjuncts, pair_conjuncts_of, lefts_of, rights_of, others_left}
+use Rattle.wt_blocks.proofs.Conjuncts.{as_conjunct, all_of, conjuncts_together, conjuncts_where, conjuncts_append, test_conjunct, stacked_again, conditions_stand, lowered_again, none_pairs, pair_conjuncts, pair_conjuncts_of, stands_second, lefts_of, rights_of, others_left}
 
 -- ---- the select list
 
@@ -123,6 +123,19 @@ module _ (S : List Table) (schema : IsSchema S) where
         ap (deduped once) (ap (listed (is_sole_star is && not (has_right from)) (map (at_place (places_of S from)) (flat_map (item_places (scope_of S from)) is))) conditioned
         ∙ select_list list f is t (stand (zone_conditions 0 z) (built_from z)))
 
+  -- ---- the conjuncts of an ON: its pairs, and those of further conditions
+
+  pub on_conjuncts : (n m : ℕ) (l r : Zone) → ZoneFits S l → ZoneFits S r → AllDiffer (zone_columns S n l ++ zone_columns S m r) → (a b : List ℕ) → Each (λ k. k < length (zone_columns S n l)) a
+      → Each (λ k. k < length (zone_columns S m r)) b → (cs : List CondTree) (os : List Conjunct) → all_of S (zone_columns S n l ++ zone_columns S m r) cs ≡ os
+      → conjuncts S (scope_of S (from_tree S n l) ++ scope_of S (from_tree S m r)) (together (pair_trees (zone_columns S n l) (zone_columns S m r) a b ++ cs)) ≡ pair_conjuncts (length (zone_columns S n l)) a b ++ os
+  on_conjuncts n m l r fl fr apart a b in_left in_right cs os e =
+      let lefts = zone_columns S n l in
+      let rights = zone_columns S m r in
+      (λ i. conjuncts S (scope_there S schema n l fl i ++ scope_there S schema m r fr i) (together (pair_trees lefts rights a b ++ cs)))
+      ∙ conjuncts_together S (lefts ++ rights) (pair_trees lefts rights a b ++ cs)
+      ∙ conjuncts_append S (lefts ++ rights) (pair_trees lefts rights a b) cs
+      ∙ (λ i. pair_conjuncts_of S lefts rights apart a b in_left in_right i ++ e i)
+
   -- ---- all zones
 
   mutual
@@ -149,10 +162,8 @@ module _ (S : List Table) (schema : IsSchema S) where
         let on = together (pair_trees lefts rights a b) in
         let apart = columns_apart S schema n (inner_join a b l r) h room in
         let js : conjuncts S (scope_of S (from_tree S n l) ++ scope_of S (from_tree S m r)) on ≡ pair_conjuncts (length lefts) a b ++ [] =
-            (λ i. conjuncts S (scope_there S schema n l h.1 i ++ scope_there S schema m r h.2 i) on)
-            ∙ conjuncts_together S (lefts ++ rights) (pair_trees lefts rights a b)
-            ∙ pair_conjuncts_of S lefts rights apart a b in_left in_right
-            ∙ sym (append-nil (pair_conjuncts (length lefts) a b))
+            ap (λ cs. conjuncts S (scope_of S (from_tree S n l) ++ scope_of S (from_tree S m r)) (together cs)) (sym (append-nil (pair_trees lefts rights a b)))
+            ∙ on_conjuncts n m l r h.1 h.2 apart a b in_left in_right [] [] refl
         in
         let place_l : places_of S (from_tree S n l) ≡ upto (length lefts) = in_text_order S n l ∙ ap (λ s. upto (length s)) (scope_there S schema n l h.1) in
         let place_r : places_of S (from_tree S m r) ≡ upto (length rights) = in_text_order S m r ∙ ap (λ s. upto (length s)) (scope_there S schema m r h.2) in
@@ -175,11 +186,7 @@ module _ (S : List Table) (schema : IsSchema S) where
         let os = map as_conjunct (zone_conditions (length lefts) r) in
         let none = none_pairs S (length lefts) (length lefts) r h.2 (omega arith) in
         let js : conjuncts S (scope_of S (from_tree S n l) ++ scope_of S (from_tree S m r)) on ≡ pair_conjuncts (length lefts) a b ++ os =
-            (λ i. conjuncts S (scope_there S schema n l h.1 i ++ scope_there S schema m r h.2 i) on)
-            ∙ conjuncts_together S (lefts ++ rights) (pair_trees lefts rights a b ++ cs)
-            ∙ conjuncts_append S (lefts ++ rights) (pair_trees lefts rights a b) cs
-            ∙ (λ i. pair_conjuncts_of S lefts rights apart a b in_left in_right i
-            ++ kept_law m (m + from_items r) r (lefts ++ rights) (length lefts) h.2 apart (Rattle.wt_blocks.proofs.Conjuncts.stands_second lefts rights) (omega (arith, room)) i)
+            on_conjuncts n m l r h.1 h.2 apart a b in_left in_right cs os (kept_law m (m + from_items r) r (lefts ++ rights) (length lefts) h.2 apart (stands_second lefts rights) (omega (arith, room)))
         in
         let place_l : places_of S (from_tree S n l) ≡ upto (length lefts) = in_text_order S n l ∙ ap (λ s. upto (length s)) (scope_there S schema n l h.1) in
         let place_r : places_of S (from_tree S m r) ≡ upto (length rights) = in_text_order S m r ∙ ap (λ s. upto (length s)) (scope_there S schema m r h.2) in

@@ -302,7 +302,7 @@ module _ (S : List Table) (schema : IsSchema S) where
       ∙ ap length (append-nil (map (λ (s : ScopeColumn). s.name) columns)) ∙ length_map (λ (s : ScopeColumn). s.name) columns ∙ w
   names_goes n z h once (Some cols) is t keep = (λ i. length (flat_map (item_names (scope_there S schema n z h i)) is)) ∙ taken_names (zone_columns S n z) cols is t
 
-  block_names : (n : ℕ) (b : Block) → BlockFits S b → length (output_names S (block_tree S n b)) ≡ block_width b
+  pub block_names : (n : ℕ) (b : Block) → BlockFits S b → length (output_names S (block_tree S n b)) ≡ block_width b
   block_names n (block once list z) h = names_goes n z h.2 once list (items_of list (zone_columns S n z)) (list_takes (zone_columns S n z) list) (where_of (condition_trees S n (n + from_items z) z))
 
   -- ---- faults of a block, given its zone

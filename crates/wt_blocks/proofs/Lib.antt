@@ -8,3 +8,4 @@ pub mod Zones
 pub mod Conjuncts
 pub mod Planned
 pub mod Faults
+pub mod Root

@@ -151,6 +151,10 @@ abbrev mutual
 
 -- ---- the whole query
 
+-- a SELECT list over a zone
+abbrev pub chosen_tree : List Table → ℕ → Bool → List Item → Zone → QueryTree
+chosen_tree S n once list z = select once list (from_tree S n z) (where_of (condition_trees S n (n + from_items z) z))
+
 -- columns with names
 abbrev pub named_items : List ScopeColumn → List ℕ → List (List ℕ) → List Item
 named_items columns (k ∷ cols) (name ∷ names) = items.Column (column_at columns k) (Some name) ∷ named_items columns cols names
@@ -168,8 +172,7 @@ star_tree true S once z names = block_tree S 0 (block once None z)
 star_tree false S once z names = select once (items.Star 0 ∷ []) (trees.derived (block_tree S 1 (block false None z)) (alias_of 0) (Some names) 0 0) no_filter
 
 abbrev pub named_tree : List Table → Block → List (List ℕ) → QueryTree
-named_tree S (block once (Some cols) z) names =
-    select once (named_items (zone_columns S 0 z) cols names) (from_tree S 0 z) (where_of (condition_trees S 0 (from_items z) z))
+named_tree S (block once (Some cols) z) names = chosen_tree S 0 once (named_items (zone_columns S 0 z) cols names) z
 named_tree S (block once None z) names = star_tree (have_names (zone_columns S 0 z) names) S once z names
 
 abbrev pub printed : List Table → PlanTree → List (List ℕ) → QueryTree

@@ -9,3 +9,4 @@ pub mod Conjuncts
 pub mod Planned
 pub mod Faults
 pub mod Root
+pub mod Formed

@@ -89,7 +89,7 @@ all_moved_twice d n (c ∷ cs) = λ i. moved_twice d n c i ∷ all_moved_twice d
 -- ---- conditions that stand are gathered again
 
 -- with the subquery's plan placed
-abbrev settled : Condition → Condition
+abbrev pub settled : Condition → Condition
 settled (test q cols) = test q cols
 settled (places.member cols r) = places.member cols (placed r)
 
@@ -97,7 +97,7 @@ conditions_put : (c : Condition) (p : PlanTree) → conditions (put c p) ≡ con
 conditions_put (test q cols) p = refl
 conditions_put (places.member cols r) p = refl
 
-conditions_stand : (cs : List Condition) (p : PlanTree) → conditions (stand cs p) ≡ conditions p ++ map settled cs
+pub conditions_stand : (cs : List Condition) (p : PlanTree) → conditions (stand cs p) ≡ conditions p ++ map settled cs
 conditions_stand [] p = sym (append-nil (conditions p))
 conditions_stand (c ∷ cs) p = conditions_stand cs (put c p) ∙ ap (λ l. l ++ map settled cs) (conditions_put c p) ∙ append_assoc (conditions p) (settled c ∷ []) (map settled cs)
 
@@ -105,7 +105,7 @@ bare_put : (c : Condition) (p : PlanTree) → bare (put c p) ≡ bare p
 bare_put (test q cols) p = refl
 bare_put (places.member cols r) p = refl
 
-bare_stand : (cs : List Condition) (p : PlanTree) → bare (stand cs p) ≡ bare p
+pub bare_stand : (cs : List Condition) (p : PlanTree) → bare (stand cs p) ≡ bare p
 bare_stand [] p = refl
 bare_stand (c ∷ cs) p = bare_stand cs (put c p) ∙ bare_put c p
 

@@ -11,3 +11,4 @@ pub mod Faults
 pub mod Root
 pub mod Formed
 pub mod Settled
+pub mod Lawful

@@ -1,5 +1,5 @@
 -- The conjuncts of a zone's conditions, and those of a join, over places.
-use Rattle.std.proofs.Common.{◌≡◌, ◌≢◌, ℕ, zero, suc, ◌+◌, ◌-◌, ◌<◌, ◌≤◌, nat_lt, Bool, true, false, ◌&&◌, not, cond, List, [], ◌∷◌, ◌++◌, append-nil, append_assoc, map, filter, length, length-append, get_or, Option, Some, None, is_some, refl, sym, ap, subst, ◌∙◌, arith}
+use Rattle.std.proofs.Common.{◌≡◌, ℕ, ◌+◌, ◌-◌, ◌<◌, ◌≤◌, nat_lt, ◌&&◌, not, cond, List, [], ◌∷◌, ◌++◌, append-nil, append_assoc, map, length, length-append, get_or, Some, None, is_some, refl, sym, ap, subst, ◌∙◌, arith}
 use Rattle.std.specs.Prelude.{flat_map}
 use Rattle.std.proofs.lemmas.Bool.{lt-ltb, le-ltb}
 use Rattle.std.proofs.lemmas.List.{get_or-map, get_or-append-add, get_or_append_left}
@@ -12,28 +12,26 @@ use Rattle.wt_pred.specs.Tree.{PredTree}
 use Rattle.wt_pred.specs.Tree as preds
 use Rattle.wt_pred.specs.Columns.{occurring, columns, renumbered}
 use Rattle.wt_schema.specs.declared.schema.Table.{Table}
-use Rattle.wt_ast.specs.Tree.{CondTree, CondTrees, FilterTree, trees_of, no_filter, filter_by}
-use Rattle.wt_ast.specs.Tree as trees
+use Rattle.wt_ast.specs.Tree.{CondTree, trees_of}
 use Rattle.wt_query_rows.specs.declared.scope.ScopeColumn.{ScopeColumn}
 use Rattle.wt_query_rows.specs.Scopes.{in_scope}
 use Rattle.wt_plan.specs.Tree.{PlanTree}
 use Rattle.wt_plan.specs.Tree as plans
-use Rattle.wt_plan.specs.WellFormed.{Places, Pairs}
 use Rattle.wt_plan.specs.Regular.{upto, IsNoAnd}
 use Rattle.wt_plan.proofs.Upto.{length_map}
 use Rattle.wt_place.specs.Placing.{Condition, test, put, stand}
 use Rattle.wt_place.specs.Placing as places
 use Rattle.wt_place.proofs.Regularity.{apart_map}
-use Rattle.wt_query_plan.specs.Building.{Conjunct, keeps, is_in, across, pair_of, pairs_of, others_of, on_right, at_place, above, stacked, firsts, seconds, place_of, pred_of, kept_by, conjuncts, all_conjuncts}
+use Rattle.wt_query_plan.specs.Building.{Conjunct, keeps, is_in, across, pair_of, pairs_of, others_of, on_right, at_place, above, stacked, firsts, seconds, pred_of, kept_by, conjuncts, all_conjuncts}
 use Rattle.wt_query_plan.proofs.Lookup.{map_append}
-use Rattle.wt_blocks.specs.Blocks.{Block, Zone, block, table, derived, kept, member, inner_join, left_join}
-use Rattle.wt_blocks.specs.Counting.{block_width, zone_width}
-use Rattle.wt_blocks.specs.Printed.{column_at, columns_at, test_tree, pair_trees, together, where_of}
+use Rattle.wt_blocks.specs.Blocks.{Zone, table, derived, kept, member, inner_join, left_join}
+use Rattle.wt_blocks.specs.Counting.{zone_width}
+use Rattle.wt_blocks.specs.Printed.{test_tree, pair_trees, together, where_of}
 use Rattle.wt_blocks.proofs.Rebuilt.{built, zone_conditions}
 use Rattle.wt_blocks.proofs.Fitting.{ZoneFits}
-use Rattle.wt_blocks.proofs.Naming.{each_at, AllDiffer, Stands}
+use Rattle.wt_blocks.proofs.Naming.{AllDiffer, Stands}
 use Rattle.wt_blocks.proofs.Numbering.{places_upto, columns_over, taken_back, renumbered_twice}
-use Rattle.wt_blocks.proofs.Tested.{place_there, test_resolved}
+use Rattle.wt_blocks.proofs.Tested.{place_there}
 
 -- a condition as a conjunct over the same columns
 abbrev pub as_conjunct : Condition → Conjunct
@@ -137,10 +135,10 @@ module _ (S : List Table) where
       let high = map (λ k. (n + d) + k) cols in
       let low = map (λ k. d + k) cols in
       let same : renumbered (λ k. k - n) (renumbered (λ k. get_or high k 0) q) ≡ renumbered (λ k. get_or low k 0) q =
-          renumbered_twice (λ k. get_or high k 0) (λ k. k - n) (λ k. get_or low k 0) q
-          (each_implies (λ k. k < length cols) (λ k. get_or high k 0 - n ≡ get_or low k 0) (occurring q)
-          (λ k l. let e : ((n + d) + get_or cols k 0) - n ≡ d + get_or cols k 0 = omega arith in
-          ap (λ j. j - n) (get_or-map (λ j. (n + d) + j) cols k 0 0 l) ∙ e ∙ sym (get_or-map (λ j. d + j) cols k 0 0 l)) h.0.there)
+      renumbered_twice (λ k. get_or high k 0) (λ k. k - n) (λ k. get_or low k 0) q
+      (each_implies (λ k. k < length cols) (λ k. get_or high k 0 - n ≡ get_or low k 0) (occurring q)
+      (λ k l. let e : ((n + d) + get_or cols k 0) - n ≡ d + get_or cols k 0 = omega arith in
+      ap (λ j. j - n) (get_or-map (λ j. (n + d) + j) cols k 0 0 l) ∙ e ∙ sym (get_or-map (λ j. d + j) cols k 0 0 l)) h.0.there)
       in
       ap (map (on_right n)) (map_append as_conjunct (zone_conditions (n + d) z) (test q high ∷ []))
       ∙ map_append (on_right n) (map as_conjunct (zone_conditions (n + d) z)) (as_conjunct (test q high) ∷ [])
@@ -186,9 +184,11 @@ module _ (S : List Table) where
   none_pairs n d (derived b) h low = tt
   none_pairs n d (kept q cols z) h low =
       subst (Each (λ j. pair_of n j ≡ None)) (sym (map_append as_conjunct (zone_conditions d z) (test q (map (λ k. d + k) cols) ∷ [])))
-      (each_append (λ j. pair_of n j ≡ None) (map as_conjunct (zone_conditions d z)) (as_conjunct (test q (map (λ k. d + k) cols)) ∷ []) (none_pairs n d z h.1 low)
-      (no_pair n (λ k. get_or (map (λ j. d + j) cols) k 0) q
-      (each_implies (λ k. k < length cols) (λ k. n ≤ get_or (map (λ j. d + j) cols) k 0) (occurring q) (λ k l. let e = get_or-map (λ j. d + j) cols k 0 0 l in omega (arith, e, low)) h.0.there), tt))
+      (each_append (λ j. pair_of n j ≡ None) (map as_conjunct (zone_conditions d z)) (as_conjunct (test q (map (λ k. d + k) cols)) ∷ []) (none_pairs n d z h.1 low) (
+        no_pair n (λ k. get_or (map (λ j. d + j) cols) k 0) q
+            (each_implies (λ k. k < length cols) (λ k. n ≤ get_or (map (λ j. d + j) cols) k 0) (occurring q) (λ k l. let e = get_or-map (λ j. d + j) cols k 0 0 l in omega (arith, e, low)) h.0.there),
+        tt,
+      ))
   none_pairs n d (member cols z b) h low =
       subst (Each (λ j. pair_of n j ≡ None)) (sym (map_append as_conjunct (zone_conditions d z) (places.member (map (λ k. d + k) cols) (built b) ∷ [])))
       (each_append (λ j. pair_of n j ≡ None) (map as_conjunct (zone_conditions d z)) (is_in (map (λ k. d + k) cols) (built b) ∷ []) (none_pairs n d z h.1 low) (refl, tt))

@@ -2,14 +2,11 @@
 use Rattle.std.proofs.Common.{◌≡◌, ◌≢◌, ℕ, zero, suc, ◌+◌, ◌<◌, ◌≤◌, ◌^◌, nat_lt, nat_eq, Bool, true, false, ◌&&◌, ◌||◌, not, cond, List, [], ◌∷◌, ◌++◌, append-nil, map, length, length-append, get_or, Option, Some, None, is_some, refl, sym, ap, subst, ◌∙◌, arith, eq-eqb}
 use Rattle.std.specs.Prelude.{flat_map}
 use Rattle.std.specs.List.{list_any, list_all}
-use Rattle.std.specs.Option.{unwrap_or}
 use Rattle.std.specs.Str.{bytes_eq}
 use Rattle.std.proofs.lemmas.Bool.{le-ltb}
 use Rattle.std.proofs.lemmas.List.{get_or-map, get_or-append-add, get_or_append_left}
 use Rattle.wt_bag.specs.Bags.{Each, distinct}
 use Rattle.wt_bag.proofs.EachLaws.{each_append, each_map, each_for, each_implies}
-use Rattle.wt_pred.specs.declared.tree.Cmp.TheVariants as signs
-use Rattle.wt_pred.specs.declared.tree.Operand.TheVariants as operands
 use Rattle.wt_pred.specs.Tree.{PredTree}
 use Rattle.wt_pred.specs.Tree as preds
 use Rattle.wt_pred.specs.Columns.{occurring, columns, renumbered}
@@ -17,10 +14,8 @@ use Rattle.wt_schema.specs.declared.schema.ColKind.{ColKind}
 use Rattle.wt_schema.specs.declared.schema.ColKind.TheVariants as kinds
 use Rattle.wt_schema.specs.declared.schema.Table.{Table}
 use Rattle.wt_schema.specs.Lawful.{IsSchema}
-use Rattle.wt_ast.specs.declared.tree.CmpWord.TheVariants as words
 use Rattle.wt_ast.specs.declared.tree.Item.{Item}
 use Rattle.wt_ast.specs.declared.tree.Item.TheVariants as items
-use Rattle.wt_ast.specs.declared.tree.Scalar.TheVariants as scalars
 use Rattle.wt_ast.specs.Tree.{CondTree, CondTrees, FromTree, FilterTree, QueryTree, select, trees_of}
 use Rattle.wt_ast.specs.Tree as trees
 use Rattle.wt_query_rows.specs.declared.scope.ScopeColumn.{ScopeColumn}
@@ -29,7 +24,7 @@ use Rattle.wt_plan.specs.Regular.{upto, IsNoAnd, kind_at, kinds_at}
 use Rattle.wt_plan.proofs.Upto.{length_map}
 use Rattle.wt_place.specs.Placing.{test}
 use Rattle.wt_place.specs.Placing as places
-use Rattle.wt_query_plan.specs.Building.{Conjunct, conjunct_columns, conjuncts, place_of, pred_of, pair_of, kept_by, keeps, is_in}
+use Rattle.wt_query_plan.specs.Building.{Conjunct, conjunct_columns, conjuncts, place_of, pred_of, pair_of, kept_by, is_in}
 use Rattle.wt_query_plan.specs.declared.fault.BuildFault.TheVariants as faults
 use Rattle.wt_query_plan.specs.Faults.{Fault, first_of, fault_if, query_fault, from_fault, joins_fault, filter_fault, cond_fault, conds_fault, conjunct_fault, compare_fault, test_fault, columns_fault, commas_fault, items_fault, item_fault, item_kinds, outer_one, outer_fault, conjunct_places, unpaired, is_empty, kinds_of, output_kinds, kinds_same, kind_same, column_kind, aliases_of, alias_fault}
 use Rattle.wt_query_plan.proofs.Lookup.{map_append}
@@ -38,9 +33,9 @@ use Rattle.wt_blocks.specs.Counting.{block_width, zone_width, block_items, from_
 use Rattle.wt_blocks.specs.Printed.{alias_of, column_at, columns_at, zone_columns, place_names, items_of, test_tree, pair_trees, together, where_of, block_tree, from_tree, condition_trees}
 use Rattle.wt_blocks.proofs.Rebuilt.{built, zone_conditions}
 use Rattle.wt_blocks.proofs.Fitting.{BlockFits, ZoneFits, ListFits, block_kinds, zone_kinds, zone_kinds_length, block_kinds_length}
-use Rattle.wt_blocks.proofs.Naming.{AllDiffer, Stands, stands_whole, stands_left, stands_right, found_there, other_bytes, alias_injective}
+use Rattle.wt_blocks.proofs.Naming.{AllDiffer, Stands, stands_whole, stands_left, stands_right, other_bytes, alias_injective}
 use Rattle.wt_blocks.proofs.Numbering.{numbers}
-use Rattle.wt_blocks.proofs.Tested.{KindsStand, kinds_themselves, no_mismatch, place_there, no_column_fault, places_there, no_columns_fault, kinds_there, test_resolved, no_test_fault}
+use Rattle.wt_blocks.proofs.Tested.{KindsStand, kinds_themselves, no_mismatch, place_there, no_column_fault, no_columns_fault, kinds_there, test_resolved, no_test_fault}
 use Rattle.wt_blocks.proofs.Tables.{known}
 use Rattle.wt_blocks.proofs.Zones.{columns_width, columns_apart, scope_there, names_count}
 use Rattle.wt_blocks.proofs.Conjuncts.{as_conjunct, all_of, pair_conjuncts, stands_first, stands_second}
@@ -226,12 +221,14 @@ module _ (S : List Table) where
   conditions_placed n d (kept q cols z) h l =
       let high = map (λ k. d + k) cols in
       subst (Each (Placed n)) (sym (map_append as_conjunct (zone_conditions d z) (test q high ∷ [])))
-      (each_append (Placed n) (map as_conjunct (zone_conditions d z)) (as_conjunct (test q high) ∷ []) (conditions_placed n d z h.1 l)
-      (ap (λ b. is_some (pair_of n (as_conjunct (test q high))) || b)
-      (ap (list_all (λ k. not (nat_lt k n))) (numbers (λ k. get_or high k 0) q)
-      ∙ high_columns n (map (λ k. get_or high k 0) (occurring q))
-      (each_map (λ k. n ≤ k) (λ k. get_or high k 0) (occurring q) (each_implies (λ k. k < length cols) (λ k. n ≤ get_or high k 0) (occurring q) (λ k m. let e = get_or-map (λ j. d + j) cols k 0 0 m in omega (arith, e, l)) h.0.there)))
-      ∙ or_true (is_some (pair_of n (as_conjunct (test q high)))), tt))
+      (each_append (Placed n) (map as_conjunct (zone_conditions d z)) (as_conjunct (test q high) ∷ []) (conditions_placed n d z h.1 l) (
+        ap (λ b. is_some (pair_of n (as_conjunct (test q high))) || b)
+            (ap (list_all (λ k. not (nat_lt k n))) (numbers (λ k. get_or high k 0) q)
+            ∙ high_columns n (map (λ k. get_or high k 0) (occurring q))
+            (each_map (λ k. n ≤ k) (λ k. get_or high k 0) (occurring q) (each_implies (λ k. k < length cols) (λ k. n ≤ get_or high k 0) (occurring q) (λ k m. let e = get_or-map (λ j. d + j) cols k 0 0 m in omega (arith, e, l)) h.0.there)))
+            ∙ or_true (is_some (pair_of n (as_conjunct (test q high)))),
+        tt,
+      ))
   conditions_placed n d (member cols z b) h l =
       subst (Each (Placed n)) (sym (map_append as_conjunct (zone_conditions d z) (places.member (map (λ k. d + k) cols) (built b) ∷ [])))
       (each_append (Placed n) (map as_conjunct (zone_conditions d z)) (is_in (map (λ k. d + k) cols) (built b) ∷ []) (conditions_placed n d z h.1 l) (high_columns n (map (λ k. d + k) cols) (raised n d l cols), tt))
@@ -257,10 +254,10 @@ module _ (S : List Table) (schema : IsSchema S) where
       let scope = lefts ++ rights in
       let all = ks ++ ms in
       let kx : kind_at all (place_of scope (column_at lefts x)) ≡ kind_at ks x =
-          ap (kind_at all) (place_there scope apart 0 lefts (stands_first lefts rights) x h.0) ∙ kinds_first ks ms x (omega (arith, h.0, el))
+      ap (kind_at all) (place_there scope apart 0 lefts (stands_first lefts rights) x h.0) ∙ kinds_first ks ms x (omega (arith, h.0, el))
       in
       let ky : kind_at all (place_of scope (column_at rights y)) ≡ kind_at ms y =
-          ap (kind_at all) (place_there scope apart (length lefts) rights (stands_second lefts rights) y k.0) ∙ kinds_second ks ms (length lefts) el y (omega (arith, k.0, er))
+      ap (kind_at all) (place_there scope apart (length lefts) rights (stands_second lefts rights) y k.0) ∙ kinds_second ks ms (length lefts) el y (omega (arith, k.0, er))
       in (
         neither (neither (no_column_fault scope apart 0 lefts (stands_first lefts rights) outer x h.0) (neither (no_column_fault scope apart (length lefts) rights (stands_second lefts rights) outer y k.0)
             (no_mismatch (kind_at all (place_of scope (column_at lefts x))) (kind_at all (place_of scope (column_at rights y))) 0 (kx ∙ head_kind (kind_at ks x) (kind_at ms y) (kinds_at ks a) (kinds_at ms b) e ∙ sym ky)))) refl,
@@ -381,7 +378,7 @@ module _ (S : List Table) (schema : IsSchema S) where
         let kl = zone_output n l h.1 (omega (arith, room)) in
         let kr = zone_output m r h.2 (omega (arith, room)) in
         let js = ap (λ cs. conjuncts S (scope_of S (from_tree S n l) ++ scope_of S (from_tree S m r)) (together cs)) (sym (append-nil (pair_trees lefts rights a b)))
-            ∙ on_conjuncts S schema n m l r h.1 h.2 apart a b in_left in_right [] [] refl in
+        ∙ on_conjuncts S schema n m l r h.1 h.2 apart a b in_left in_right [] [] refl in
         neither (neither (joins_fine n l h.1 (omega (arith, room)) outer query) (joins_fine m r h.2 (omega (arith, room)) outer query))
         (neither ((λ i. cond_fault S outer query (sl i ++ sr i) (kl i ++ kr i) on)
         ∙ fine_together S outer query (lefts ++ rights) (zone_kinds S l ++ zone_kinds S r) (pair_trees lefts rights a b)
@@ -426,9 +423,9 @@ module _ (S : List Table) (schema : IsSchema S) where
         let low = map (λ k. d + k) cols in
         each_append (Fine S outer query scope all) (condition_trees S n m z) (test_tree columns cols q ∷ []) (conditions_fine n m z scope d all h.1 apart stands ks room outer query) (
           fine_test S outer query scope all columns cols q h.0.regular.no_and (neither (no_test_fault scope apart d columns stands cols within outer all (zone_kinds S z) named ks q h.0.there h.0.regular.typed)
-          (some_columns (occurring (pred_of scope (test_tree columns cols q))) 0
-          (subst (λ p. occurring p ≢ []) (sym (test_resolved scope apart d columns stands cols within q h.0.there))
-          (λ e. h.0.places.some (no_columns (λ k. get_or low k 0) q cols h.0.regular.in_order e))))),
+              (some_columns (occurring (pred_of scope (test_tree columns cols q))) 0
+              (subst (λ p. occurring p ≢ []) (sym (test_resolved scope apart d columns stands cols within q h.0.there))
+              (λ e. h.0.places.some (no_columns (λ k. get_or low k 0) q cols h.0.regular.in_order e))))),
           tt,
         )
     conditions_fine n m (member cols z b) scope d all h apart stands ks room outer query =
@@ -439,13 +436,13 @@ module _ (S : List Table) (schema : IsSchema S) where
         let at = m + condition_items z in
         let out = block_output at b h.2 (omega (arith, room)) in
         let many : length (columns_at columns cols) ≡ length (output_kinds S (block_tree S at b)) =
-            length_map (column_at columns) cols ∙ h.0.equally_many ∙ sym (ap length out ∙ block_kinds_length S b h.2)
+        length_map (column_at columns) cols ∙ h.0.equally_many ∙ sym (ap length out ∙ block_kinds_length S b h.2)
         in
         each_append (Fine S outer query scope all) (condition_trees S n m z) (trees.in_query 0 (columns_at columns cols) (block_tree S at b) 0 ∷ []) (conditions_fine n m z scope d all h.1 apart stands ks (omega (arith, room)) outer query) (
           neither (no_columns_fault scope apart d columns stands outer cols within)
-          (neither (block_fine at b h.2 (omega (arith, room)) (outer ++ query))
-          (neither (holds _ faults.InWidth 0 (eq-eqb (length (columns_at columns cols)) (length (output_kinds S (block_tree S at b))) many))
-          (holds _ faults.TypeMismatch 0 ((λ i. kinds_same ((kinds_there scope apart d columns stands all (zone_kinds S z) named ks cols within ∙ h.0.kinds) i) (out i)) ∙ kinds_themselves (block_kinds S b))))),
+              (neither (block_fine at b h.2 (omega (arith, room)) (outer ++ query))
+              (neither (holds _ faults.InWidth 0 (eq-eqb (length (columns_at columns cols)) (length (output_kinds S (block_tree S at b))) many))
+              (holds _ faults.TypeMismatch 0 ((λ i. kinds_same ((kinds_there scope apart d columns stands all (zone_kinds S z) named ks cols within ∙ h.0.kinds) i) (out i)) ∙ kinds_themselves (block_kinds S b))))),
           tt,
         )
     conditions_fine n m (inner_join a b l r) scope d all h apart stands ks room outer query =

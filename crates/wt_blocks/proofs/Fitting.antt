@@ -1,5 +1,5 @@
 -- What a regular plan says of the zones that it is cut into.
-use Rattle.std.proofs.Common.{◌≡◌, ◌≢◌, ℕ, zero, suc, ◌+◌, ◌<◌, ◌≤◌, ◌^◌, Bool, true, false, List, [], ◌∷◌, ◌++◌, map, length, length-append, Option, Some, None, refl, sym, ap, subst, ◌∙◌, arith}
+use Rattle.std.proofs.Common.{◌≡◌, ℕ, zero, suc, ◌+◌, ◌<◌, ◌≤◌, true, false, List, [], ◌∷◌, ◌++◌, length, length-append, Option, Some, None, refl, sym, ap, subst, ◌∙◌, arith}
 use Rattle.wt_bag.specs.Bags.{Each}
 use Rattle.wt_pred.specs.Tree.{PredTree}
 use Rattle.wt_pred.specs.Columns.{occurring}
@@ -14,7 +14,7 @@ use Rattle.wt_plan.specs.Regular.{kind_at, kinds_at, table_kinds, plan_kinds, Re
 use Rattle.wt_plan.proofs.Upto.{length_map}
 use Rattle.wt_blocks.specs.Blocks.{Block, Zone, block, table, derived, kept, member, inner_join, left_join, block_of, distinct, zone_of, plan_block}
 use Rattle.wt_blocks.specs.Counting.{block_width, zone_width, block_items, from_items, condition_items}
-use Rattle.wt_blocks.proofs.Rebuilt.{width_block, width_distinct, width_zone}
+use Rattle.wt_blocks.proofs.Rebuilt.{width_block, width_zone}
 
 table_width : (S : List Table) (n : ℕ) → length (table_kinds S n) ≡ width_of S n
 table_width [] n = refl

@@ -1,14 +1,13 @@
 -- The tree of a plan whose predicates have a text is formed as a query that was read.
-use Rattle.std.proofs.Common.{◌≡◌, ◌≢◌, ℕ, zero, suc, ◌+◌, ◌<◌, ◌≤◌, ◌^◌, Bool, true, false, ◌&&◌, List, [], ◌∷◌, ◌++◌, map, length, length-append, get_or, Option, Some, None, refl, sym, ap, subst, ◌∙◌, arith}
-use Rattle.std.specs.Prelude.{codes, slice_index}
+use Rattle.std.proofs.Common.{◌≡◌, ◌≢◌, ℕ, zero, suc, ◌+◌, ◌<◌, ◌≤◌, ◌^◌, Bool, true, false, List, [], ◌∷◌, ◌++◌, map, length, length-append, get_or, Option, Some, None, refl, sym, ap, subst, ◌∙◌, arith}
 use Rattle.std.specs.Fmt.{decimal}
 use Rattle.std.specs.List.{All, AllByRecursion}
-use Rattle.std.specs.Str.{is_utf8, IsAscii}
+use Rattle.std.specs.Str.{IsAscii}
 use Rattle.std.proofs.lemmas.Fmt.{IsAscii-decimal}
 use Rattle.std.proofs.lemmas.List.Elements.{All-head, All-tail}
 use Rattle.std.proofs.lemmas.Str.{is_utf8-from_IsUtf8, IsUtf8-from_ascii}
 use Rattle.wt_bag.specs.Bags.{Each}
-use Rattle.wt_bag.proofs.EachLaws.{each_append, each_append_left, each_append_right, each_map, each_for, each_implies}
+use Rattle.wt_bag.proofs.EachLaws.{each_append, each_append_left, each_append_right, each_map, each_implies}
 use Rattle.wt_value.specs.declared.value.Value.{Value}
 use Rattle.wt_value.specs.declared.value.Value.TheVariants as values
 use Rattle.wt_pred.specs.declared.tree.Operand.{Operand}
@@ -19,7 +18,6 @@ use Rattle.wt_pred.specs.Columns.{operand_columns, occurring, occurring_in}
 use Rattle.wt_schema.specs.declared.schema.Column as schema_columns
 use Rattle.wt_schema.specs.declared.schema.Table.{Table}
 use Rattle.wt_schema.specs.Lawful.{IsSchema, IsTable}
-use Rattle.wt_ast.specs.declared.tree.Item.{Item}
 use Rattle.wt_ast.specs.declared.tree.Item.TheVariants as items
 use Rattle.wt_ast.specs.Lawful.{IsName, IfWritten, OneOrMore, IsColumn, IsItem, IsLiteral, IsScalar, is_comma, IsFormed, IsFilter, IsFrom, IsCond, AreConds}
 use Rattle.wt_ast.specs.Lawful as asts
@@ -29,18 +27,18 @@ use Rattle.wt_query_rows.specs.declared.scope.ScopeColumn.{ScopeColumn}
 use Rattle.wt_query_rows.specs.Scopes.{in_scope}
 use Rattle.wt_plan.specs.Tree.{PlanTree}
 use Rattle.wt_plan.specs.Tree as plans
-use Rattle.wt_plan.specs.Measures.{width, cost}
+use Rattle.wt_plan.specs.Measures.{width}
 use Rattle.wt_plan.specs.Regular.{upto, IsConstant, ConstantOperand, HasConstants, AllConstants, Regular}
 use Rattle.wt_plan.proofs.Upto.{length_upto, upto_within}
 use Rattle.wt_blocks.specs.Blocks.{Block, Zone, block, table, derived, kept, member, inner_join, left_join, block_of, distinct, zone_of, plan_block}
 use Rattle.wt_blocks.specs.Counting.{block_width, zone_width, block_items, from_items, condition_items}
 use Rattle.wt_blocks.specs.Parts.{HasParts, AllHaveParts, PlanParts}
 use Rattle.wt_blocks.specs.Parts as parts
-use Rattle.wt_blocks.specs.Printed.{alias_of, place_name, place_names, table_name, table_columns, zone_columns, column_at, columns_at, operand_column, scalar_of, test_tree, test_trees, pair_trees, together, where_of, items_of, block_tree, from_tree, condition_trees, named_items, have_names, chosen_tree, star_tree, named_tree, printed}
+use Rattle.wt_blocks.specs.Printed.{alias_of, place_name, place_names, table_name, table_columns, zone_columns, column_at, columns_at, operand_column, scalar_of, test_tree, test_trees, pair_trees, together, where_of, items_of, block_tree, from_tree, condition_trees, named_items, have_names, star_tree, named_tree, printed}
 use Rattle.wt_blocks.proofs.Rebuilt.{width_block, width_zone}
 use Rattle.wt_blocks.proofs.Fitting.{BlockFits, ZoneFits, ListFits, plan_fits, items_in_block}
 use Rattle.wt_blocks.proofs.Naming.{each_at}
-use Rattle.wt_blocks.proofs.Tables.{columns_count, table_some}
+use Rattle.wt_blocks.proofs.Tables.{table_some}
 use Rattle.wt_blocks.proofs.Zones.{columns_width, names_count, no_comma}
 
 -- ---- lists

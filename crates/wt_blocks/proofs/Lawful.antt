@@ -1,5 +1,5 @@
 -- The predicates of a lawful query's plan have a text, and its output names are names.
-use Rattle.std.proofs.Common.{◌≡◌, ℕ, zero, suc, ◌+◌, ◌-◌, ◌<◌, ◌≤◌, Bool, true, false, ◌&&◌, not, cond, List, [], ◌∷◌, ◌++◌, append_assoc, map, filter, length, Option, Some, None, is_some, refl, sym, ap, subst, ◌∙◌, arith}
+use Rattle.std.proofs.Common.{◌≡◌, ℕ, ◌+◌, ◌-◌, ◌≤◌, Bool, true, false, ◌&&◌, not, cond, List, [], ◌∷◌, ◌++◌, map, filter, length, Option, Some, None, is_some, refl, sym, ap, subst, ◌∙◌}
 use Rattle.std.specs.Prelude.{flat_map}
 use Rattle.std.specs.List.{All, AllByRecursion}
 use Rattle.std.specs.Option.{unwrap_or}
@@ -7,7 +7,6 @@ use Rattle.std.specs.Str.{bytes_eq}
 use Rattle.std.proofs.lemmas.List.Elements.{All-head, All-tail}
 use Rattle.wt_bag.specs.Bags.{Each}
 use Rattle.wt_bag.proofs.EachLaws.{each_append, each_filter, each_map, each_implies}
-use Rattle.wt_value.specs.declared.value.Value.{Value}
 use Rattle.wt_pred.specs.Tree.{PredTree, PredTrees}
 use Rattle.wt_pred.specs.Tree as preds
 use Rattle.wt_pred.specs.Columns.{columns, renumbered, all_renumbered, place_in}
@@ -18,7 +17,7 @@ use Rattle.wt_ast.specs.declared.tree.Item.{Item}
 use Rattle.wt_ast.specs.declared.tree.Item.TheVariants as items
 use Rattle.wt_ast.specs.declared.marks.Mark.{Mark}
 use Rattle.wt_ast.specs.declared.marks.Marked.TheVariants.{HiddenIn}
-use Rattle.wt_ast.specs.Marks.{marks, marks_in_from, marks_in_filter, marks_in_cond, marks_in_conds, mark, same, conjunct_mark, in_mark, places}
+use Rattle.wt_ast.specs.Marks.{marks, marks_in_from, marks_in_filter, marks_in_cond, marks_in_conds, same, places}
 use Rattle.wt_ast.specs.Lawful.{IsName, OneOrMore, IsItem, IsFormed, IsFilter, IsFrom, IsCond, AreConds, IsLawful}
 use Rattle.wt_ast.specs.Lawful as asts
 use Rattle.wt_ast.specs.Tree.{QueryTree, FilterTree, FromTree, CondTree, CondTrees, select, no_filter, filter_by, table, derived, inner_join, left_join, right_join, comma, compare, is_null, is_not_null, in_list, in_query, all_of, any_of, negated, no_conds, cond_then}
@@ -29,7 +28,7 @@ use Rattle.wt_plan.specs.Tree as plans
 use Rattle.wt_plan.specs.Measures.{width}
 use Rattle.wt_place.specs.Placing.{Condition, test, moved, put, stand, in_left, in_right, in_both, settle, conditions, bare, placed}
 use Rattle.wt_place.specs.Placing as placing
-use Rattle.wt_query_plan.specs.Building.{Conjunct, keeps, is_in, pair_of, others_of, on_right, above, stacked, listed, deduped, free_of, links, kept_by, conjuncts, all_conjuncts, planned, from_plan, pred_of, preds_of, place_of, at_place, places_of, pairs_of, firsts, seconds, item_places, is_sole_star, has_right}
+use Rattle.wt_query_plan.specs.Building.{Conjunct, keeps, is_in, pair_of, others_of, on_right, above, stacked, listed, deduped, free_of, links, kept_by, conjuncts, all_conjuncts, planned, from_plan, pred_of, preds_of, at_place, places_of, item_places, is_sole_star, has_right}
 use Rattle.wt_blocks.specs.Parts.{HasParts, AllHaveParts, PlanParts}
 use Rattle.wt_blocks.specs.Parts as parts
 

@@ -1,21 +1,18 @@
 -- A column that is written with its alias is found where it stands: no two columns of a zone have the same alias and name.
 use Rattle.std.proofs.Common.{◌≡◌, ◌≢◌, ℕ, zero, suc, ◌+◌, ◌<◌, ◌≤◌, ◌^◌, Bool, true, false, ◌&&◌, cond, List, [], ◌∷◌, ◌++◌, map, filter, length, get_or, drop, Some, None, refl, sym, ap, subst, ◌∙◌, arith}
-use Rattle.std.specs.Prelude.{codes}
-use Rattle.std.specs.Fmt.{decimal}
-use Rattle.std.specs.List.{All, AllPairs, list_any}
+use Rattle.std.specs.List.{AllPairs}
 use Rattle.std.specs.Str.{bytes_eq}
 use Rattle.std.proofs.lemmas.Fmt.{decimal_injective}
 use Rattle.std.proofs.lemmas.List.{get_or-append-add, get_or_append_left}
 use Rattle.std.proofs.lemmas.Slice.Eq.{bytes_eq-Decides}
 use Rattle.wt_bag.specs.Bags.{Each}
 use Rattle.wt_bag.specs.Choices.{Apart}
-use Rattle.wt_bag.proofs.EachLaws.{each_append, each_map, each_for, each_implies}
+use Rattle.wt_bag.proofs.EachLaws.{each_append, each_map, each_implies}
 use Rattle.wt_ast.specs.declared.tree.ColumnName.{ColumnName}
 use Rattle.wt_query_rows.specs.declared.scope.ScopeColumn.{ScopeColumn}
 use Rattle.wt_query_rows.specs.Scopes.{fits, in_scope}
-use Rattle.wt_plan.specs.Regular.{upto}
 use Rattle.wt_query_plan.specs.Building.{place_of}
-use Rattle.wt_blocks.specs.Printed.{alias_of, place_name, place_names, written, column_at}
+use Rattle.wt_blocks.specs.Printed.{alias_of, place_name, written, column_at}
 
 -- ---- lists
 

@@ -1,12 +1,12 @@
 -- A predicate over a list of places, its places exchanged for the columns of the list and back.
-use Rattle.std.proofs.Common.{◌≡◌, ◌≢◌, ℕ, zero, suc, ◌+◌, ◌-◌, ◌<◌, ◌≤◌, nat_eq, Bool, true, false, not, cond, List, [], ◌∷◌, ◌++◌, map, length, get_or, refl, sym, ap, subst, ◌∙◌, arith, eq-eqb}
+use Rattle.std.proofs.Common.{◌≡◌, ◌≢◌, ℕ, zero, suc, ◌<◌, nat_eq, Bool, true, false, List, [], ◌∷◌, ◌++◌, map, length, get_or, refl, sym, ap, ◌∙◌, arith, eq-eqb}
 use Rattle.std.proofs.lemmas.List.{get_or-map}
 use Rattle.std.proofs.lemmas.List.Sums.{position_or_len_is}
 use borrow.Author.Tests.{eqb-true}
 use Rattle.wt_bag.specs.Bags.{Each, distinct}
 use Rattle.wt_bag.specs.Choices.{Apart}
 use Rattle.wt_bag.proofs.BagLaws.{distinct-map}
-use Rattle.wt_bag.proofs.EachLaws.{each_append_left, each_append_right, each_implies, each_map}
+use Rattle.wt_bag.proofs.EachLaws.{each_append_left, each_append_right, each_implies}
 use Rattle.wt_pred.specs.declared.tree.Operand.{Operand}
 use Rattle.wt_pred.specs.declared.tree.Operand.TheVariants.{Column, Constant}
 use Rattle.wt_pred.specs.Tree.{PredTree, PredTrees, compare, is_null, is_not_null, in_list, all_of, any_of, negated, no_preds, pred_then}

@@ -1,10 +1,9 @@
 -- The tree of a block is built to the block's plan.
-use Rattle.std.proofs.Common.{◌≡◌, ℕ, zero, suc, ◌+◌, ◌<◌, ◌≤◌, ◌^◌, Bool, true, false, ◌&&◌, not, List, [], ◌∷◌, ◌++◌, append-nil, append_assoc, map, length, length-append, Option, Some, None, refl, sym, ap, subst, ◌∙◌, arith}
+use Rattle.std.proofs.Common.{◌≡◌, ℕ, suc, ◌+◌, ◌<◌, ◌≤◌, ◌^◌, Bool, false, ◌&&◌, not, List, [], ◌∷◌, ◌++◌, append-nil, map, length, Option, Some, None, refl, sym, ap, subst, ◌∙◌, arith}
 use Rattle.std.specs.Prelude.{flat_map}
 use Rattle.wt_bag.specs.Bags.{Each}
 use Rattle.wt_schema.specs.declared.schema.Table.{Table}
 use Rattle.wt_schema.specs.Lawful.{IsSchema}
-use Rattle.wt_ast.specs.declared.tree.ColumnName.{ColumnName}
 use Rattle.wt_ast.specs.declared.tree.Item.{Item}
 use Rattle.wt_ast.specs.declared.tree.Item.TheVariants as items
 use Rattle.wt_ast.specs.Tree.{CondTree, FromTree, QueryTree, select}
@@ -16,14 +15,14 @@ use Rattle.wt_plan.specs.Tree as plans
 use Rattle.wt_plan.specs.Regular.{upto}
 use Rattle.wt_place.specs.Placing.{Condition, stand}
 use Rattle.wt_place.specs.Placing as places
-use Rattle.wt_query_plan.specs.Building.{Conjunct, at_place, stacked, free_of, has_right, is_sole_star, item_places, listed, deduped, place_of, places_of, kept_by, conjuncts, planned, from_plan, inner_of, left_of, pairs_of, others_of, on_right, firsts, seconds, is_in, keeps, pred_of}
+use Rattle.wt_query_plan.specs.Building.{Conjunct, at_place, stacked, free_of, has_right, is_sole_star, item_places, listed, deduped, place_of, places_of, kept_by, conjuncts, planned, from_plan, inner_of, left_of, pairs_of, on_right, firsts, seconds, is_in, keeps}
 use Rattle.wt_query_plan.proofs.Lookup.{map_append}
 use Rattle.wt_blocks.specs.Blocks.{Block, Zone, block, table, derived, kept, member, inner_join, left_join}
-use Rattle.wt_blocks.specs.Counting.{block_width, zone_width, block_items, from_items, condition_items}
+use Rattle.wt_blocks.specs.Counting.{zone_width, block_items, from_items, condition_items}
 use Rattle.wt_blocks.specs.Printed.{column_at, columns_at, zone_columns, items_of, test_tree, pair_trees, together, where_of, block_tree, from_tree, condition_trees}
 use Rattle.wt_blocks.proofs.Rebuilt.{of_list, built, built_from, zone_conditions}
 use Rattle.wt_blocks.proofs.Fitting.{BlockFits, ZoneFits, ListFits}
-use Rattle.wt_blocks.proofs.Naming.{AllDiffer, Found, Stands, stands_whole, stands_left, stands_right, found_there}
+use Rattle.wt_blocks.proofs.Naming.{AllDiffer, Stands, stands_whole, stands_left, stands_right, found_there}
 use Rattle.wt_blocks.proofs.Numbering.{places_upto}
 use Rattle.wt_blocks.proofs.Tested.{places_there, test_resolved}
 use Rattle.wt_blocks.proofs.Tables.{known}
@@ -162,8 +161,8 @@ module _ (S : List Table) (schema : IsSchema S) where
         let on = together (pair_trees lefts rights a b) in
         let apart = columns_apart S schema n (inner_join a b l r) h room in
         let js : conjuncts S (scope_of S (from_tree S n l) ++ scope_of S (from_tree S m r)) on ≡ pair_conjuncts (length lefts) a b ++ [] =
-            ap (λ cs. conjuncts S (scope_of S (from_tree S n l) ++ scope_of S (from_tree S m r)) (together cs)) (sym (append-nil (pair_trees lefts rights a b)))
-            ∙ on_conjuncts n m l r h.1 h.2 apart a b in_left in_right [] [] refl
+        ap (λ cs. conjuncts S (scope_of S (from_tree S n l) ++ scope_of S (from_tree S m r)) (together cs)) (sym (append-nil (pair_trees lefts rights a b)))
+        ∙ on_conjuncts n m l r h.1 h.2 apart a b in_left in_right [] [] refl
         in
         let place_l : places_of S (from_tree S n l) ≡ upto (length lefts) = in_text_order S n l ∙ ap (λ s. upto (length s)) (scope_there S schema n l h.1) in
         let place_r : places_of S (from_tree S m r) ≡ upto (length rights) = in_text_order S m r ∙ ap (λ s. upto (length s)) (scope_there S schema m r h.2) in
@@ -186,13 +185,13 @@ module _ (S : List Table) (schema : IsSchema S) where
         let os = map as_conjunct (zone_conditions (length lefts) r) in
         let none = none_pairs S (length lefts) (length lefts) r h.2 (omega arith) in
         let js : conjuncts S (scope_of S (from_tree S n l) ++ scope_of S (from_tree S m r)) on ≡ pair_conjuncts (length lefts) a b ++ os =
-            on_conjuncts n m l r h.1 h.2 apart a b in_left in_right cs os (kept_law m (m + from_items r) r (lefts ++ rights) (length lefts) h.2 apart (stands_second lefts rights) (omega (arith, room)))
+        on_conjuncts n m l r h.1 h.2 apart a b in_left in_right cs os (kept_law m (m + from_items r) r (lefts ++ rights) (length lefts) h.2 apart (stands_second lefts rights) (omega (arith, room)))
         in
         let place_l : places_of S (from_tree S n l) ≡ upto (length lefts) = in_text_order S n l ∙ ap (λ s. upto (length s)) (scope_there S schema n l h.1) in
         let place_r : places_of S (from_tree S m r) ≡ upto (length rights) = in_text_order S m r ∙ ap (λ s. upto (length s)) (scope_there S schema m r h.2) in
         let zero : length lefts ≡ length lefts + 0 = omega arith in
         let low : map (on_right (length lefts)) os ≡ map as_conjunct (zone_conditions 0 r) =
-            ap (λ d. map (on_right (length lefts)) (map as_conjunct (zone_conditions d r))) zero ∙ lowered_again S (length lefts) 0 r h.2
+        ap (λ d. map (on_right (length lefts)) (map as_conjunct (zone_conditions d r))) zero ∙ lowered_again S (length lefts) 0 r h.2
         in
         (λ i. left_of (length (scope_there S schema n l h.1 i)) (place_l i) (place_r i) (js i) (from_law n l h.1 (omega (arith, room)) [] i) (from_law m r h.2 (omega (arith, room)) [] i))
         ∙ (λ i. plans.left_join (map (at_place (upto (length lefts))) (lefts_of (length lefts) os none a b h.0.pairs.equally_many in_left i))

@@ -1,7 +1,6 @@
 -- The plan that the tree of a block is built to: the conditions of each zone stand above it. Placed, it is the plan that the
 -- block was cut from, placed.
-use Rattle.std.proofs.Common.{◌≡◌, ℕ, ◌+◌, Bool, true, false, List, [], ◌∷◌, ◌++◌, append-nil, append_assoc, map, length, Option, Some, None, refl, sym, ap, subst, ◌∙◌, arith}
-use Rattle.wt_pred.specs.Tree.{PredTree}
+use Rattle.std.proofs.Common.{◌≡◌, ℕ, ◌+◌, true, false, List, [], ◌∷◌, ◌++◌, append-nil, append_assoc, map, Option, Some, None, refl, sym, ap, ◌∙◌, arith}
 use Rattle.wt_plan.specs.Tree.{PlanTree}
 use Rattle.wt_plan.specs.Tree as plans
 use Rattle.wt_plan.specs.Measures.{width}
@@ -134,7 +133,7 @@ placed_above : (p : PlanTree) → Gathered p → placed (stand (zone_conditions 
 placed_above p h =
     let z = zone_of p in
     let cs : conditions (stand (zone_conditions 0 z) (built_from z)) ≡ conditions p =
-        conditions_stand (zone_conditions 0 z) (built_from z) ∙ ap (λ l. l ++ map settled (zone_conditions 0 z)) h.bares ∙ h.above 0 ∙ all_moved_zero (conditions p)
+    conditions_stand (zone_conditions 0 z) (built_from z) ∙ ap (λ l. l ++ map settled (zone_conditions 0 z)) h.bares ∙ h.above 0 ∙ all_moved_zero (conditions p)
     in
     let b : bare (stand (zone_conditions 0 z) (built_from z)) ≡ bare p = bare_stand (zone_conditions 0 z) (built_from z) ∙ h.zone in
     λ i. settle (cs i) (b i)

@@ -1,34 +1,29 @@
 -- The tree of a plan with names is built to the plan with these names again, without a fault.
-use Rattle.std.proofs.Common.{◌≡◌, ℕ, zero, suc, ◌+◌, ◌<◌, ◌≤◌, ◌^◌, nat_eq, Bool, true, false, ◌&&◌, not, List, [], ◌∷◌, ◌++◌, append-nil, map, length, Option, Some, None, refl, sym, ap, subst, ◌∙◌, arith, eq-eqb}
+use Rattle.std.proofs.Common.{◌≡◌, ℕ, ◌+◌, ◌≤◌, ◌^◌, Bool, true, false, ◌&&◌, not, List, [], ◌∷◌, append-nil, map, length, Some, None, refl, sym, ap, ◌∙◌, arith, eq-eqb}
 use Rattle.std.specs.Prelude.{flat_map}
 use Rattle.std.specs.Str.{bytes_eq}
 use Rattle.std.proofs.lemmas.Bool.{le-ltb}
 use Rattle.std.proofs.lemmas.Slice.Eq.{bytes_eq-Decides}
 use Rattle.wt_schema.specs.declared.schema.Table.{Table}
 use Rattle.wt_schema.specs.Lawful.{IsSchema}
-use Rattle.wt_ast.specs.declared.tree.Item.{Item}
-use Rattle.wt_ast.specs.declared.tree.Item.TheVariants as items
-use Rattle.wt_ast.specs.Tree.{FromTree, FilterTree, QueryTree, select}
 use Rattle.wt_query_rows.specs.declared.scope.ScopeColumn.{ScopeColumn}
 use Rattle.wt_query_rows.specs.Scopes.{in_scope, scope_of, output_names, item_names}
 use Rattle.wt_plan.specs.Tree.{PlanTree}
-use Rattle.wt_plan.specs.Measures.{width, cost}
+use Rattle.wt_plan.specs.Measures.{width}
 use Rattle.wt_plan.specs.Regular.{Regular}
-use Rattle.wt_plan.proofs.Upto.{length_map}
 use Rattle.wt_place.specs.Placing.{placed}
-use Rattle.wt_place.specs.Keeping.{IsPlaced}
 use Rattle.wt_query_plan.specs.Building.{planned, deduped}
 use Rattle.wt_query_plan.specs.declared.fault.BuildFault.TheVariants as faults
 use Rattle.wt_query_plan.specs.Faults.{fault_if, query_fault, output_kinds}
-use Rattle.wt_blocks.specs.Blocks.{Block, Zone, block, table, derived, kept, member, inner_join, left_join, zone_of, plan_block}
+use Rattle.wt_blocks.specs.Blocks.{Block, Zone, block, zone_of, plan_block}
 use Rattle.wt_blocks.specs.Counting.{block_width, zone_width, block_items, from_items, condition_items}
-use Rattle.wt_blocks.specs.Printed.{alias_of, zone_columns, column_at, named_items, have_names, chosen_tree, star_tree, named_tree, printed, where_of, block_tree, from_tree, condition_trees}
+use Rattle.wt_blocks.specs.Printed.{alias_of, zone_columns, named_items, have_names, star_tree, named_tree, printed, block_tree, from_tree}
 use Rattle.wt_blocks.proofs.Rebuilt.{built, placed_again, width_block, width_zone}
-use Rattle.wt_blocks.proofs.Fitting.{BlockFits, ZoneFits, ListFits, zone_kinds, block_kinds_length, plan_fits, items_in_block}
+use Rattle.wt_blocks.proofs.Fitting.{BlockFits, ZoneFits, zone_kinds, block_kinds_length, plan_fits, items_in_block}
 use Rattle.wt_blocks.proofs.Naming.{stands_whole}
-use Rattle.wt_blocks.proofs.Zones.{columns_width, columns_apart, scope_there}
-use Rattle.wt_blocks.proofs.Planned.{Takes, TakesList, block_goes, block_plan, zone_plan}
-use Rattle.wt_blocks.proofs.Faults.{neither, ZoneFine, faultless_goes, block_fine, from_fine, joins_fine, conditions_fine, kinds_whole, block_output, names_goes, block_names}
+use Rattle.wt_blocks.proofs.Zones.{columns_apart, scope_there}
+use Rattle.wt_blocks.proofs.Planned.{Takes, block_goes, block_plan, zone_plan}
+use Rattle.wt_blocks.proofs.Faults.{neither, ZoneFine, faultless_goes, block_fine, from_fine, joins_fine, conditions_fine, kinds_whole, block_output, block_names}
 
 named_take : (columns : List ScopeColumn) (cols : List ℕ) (names : List (List ℕ)) → length names ≡ length cols → Takes columns cols (named_items columns cols names)
 named_take columns [] [] e = tt

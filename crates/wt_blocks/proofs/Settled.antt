@@ -1,10 +1,9 @@
 -- Placing what is placed changes nothing. (A law of placement alone; it stands here since the crates between would be proved anew.)
-use Rattle.std.proofs.Common.{◌≡◌, ◌≢◌, ℕ, zero, suc, ◌+◌, ◌-◌, ◌<◌, ◌≤◌, nat_lt, Bool, true, false, ◌&&◌, not, cond, List, [], ◌∷◌, ◌++◌, append-nil, append_assoc, map, filter, length, refl, sym, ap, subst, ◌∙◌, arith}
+use Rattle.std.proofs.Common.{◌≡◌, ◌≢◌, ℕ, ◌+◌, ◌-◌, ◌≤◌, nat_lt, Bool, true, false, ◌&&◌, not, cond, List, [], ◌∷◌, ◌++◌, append-nil, map, filter, refl, sym, ap, subst, ◌∙◌, arith}
 use Rattle.std.specs.List.{list_all}
 use Rattle.std.proofs.lemmas.Bool.{false≢true, le-ltb}
 use Rattle.wt_bag.specs.Bags.{Each}
 use Rattle.wt_bag.proofs.EachLaws.{each_append, each_filter, each_map, each_for, each_implies, each_both}
-use Rattle.wt_pred.specs.Tree.{PredTree}
 use Rattle.wt_plan.specs.Tree.{PlanTree, table, proj, filtered, inner_join, left_join, in_sub, dedup}
 use Rattle.wt_plan.specs.Measures.{width}
 use Rattle.wt_place.specs.Placing.{Condition, test, member, over, moved, stand, in_left, in_right, in_both, settle, conditions, bare, placed}
@@ -205,26 +204,26 @@ settled_again cs (inner_join x y l r) b f =
     let fr = all_fixed_moved (λ k. k - n) rs (each_filter Fixed (in_right n) cs f) in
     let in_l : Each (λ c. in_left n c ≡ true) cl = kept (λ c. in_left n c ≡ true) ls l b.0 fl (passing (in_left n) cs) in
     let some : Each Some cr = kept Some low r b.1 fr
-        (each_map Some (moved (λ k. k - n)) rs (each_implies (λ c. in_right n c ≡ true) (λ c. Some (moved (λ k. k - n) c)) rs (λ c e none. right_some n c e (unmapped (λ k. k - n) (over c) (sym (over_moved (λ k. k - n) c) ∙ none))) (passing (in_right n) cs))) in
+    (each_map Some (moved (λ k. k - n)) rs (each_implies (λ c. in_right n c ≡ true) (λ c. Some (moved (λ k. k - n) c)) rs (λ c e none. right_some n c e (unmapped (λ k. k - n) (over c) (sym (over_moved (λ k. k - n) c) ∙ none))) (passing (in_right n) cs))) in
     let both : Each (λ c. in_both n c ≡ true) bs = passing (in_both n) cs in
     let lefts : filter (in_left n) ((cl ++ up) ++ bs) ≡ cl =
-        three (in_left n) cl up bs
-        ∙ (λ i. (filter_all (in_left n) cl in_l i ++ filter_none (in_left n) up (each_map (λ c. in_left n c ≡ false) (moved (λ k. n + k)) cr (each_implies Some (λ c. in_left n (moved (λ k. n + k) c) ≡ false) cr (not_left n) some)) i)
-        ++ filter_none (in_left n) bs (each_implies (λ c. in_both n c ≡ true) (λ c. in_left n c ≡ false) bs (λ c e. first_of (in_left n c) (not (list_all (λ k. not (nat_lt k n)) (over c))) e) both) i)
-        ∙ ap (λ l'. l' ++ []) (append-nil cl) ∙ append-nil cl
+    three (in_left n) cl up bs
+    ∙ (λ i. (filter_all (in_left n) cl in_l i ++ filter_none (in_left n) up (each_map (λ c. in_left n c ≡ false) (moved (λ k. n + k)) cr (each_implies Some (λ c. in_left n (moved (λ k. n + k) c) ≡ false) cr (not_left n) some)) i)
+    ++ filter_none (in_left n) bs (each_implies (λ c. in_both n c ≡ true) (λ c. in_left n c ≡ false) bs (λ c e. first_of (in_left n c) (not (list_all (λ k. not (nat_lt k n)) (over c))) e) both) i)
+    ∙ ap (λ l'. l' ++ []) (append-nil cl) ∙ append-nil cl
     in
     let rights : filter (in_right n) ((cl ++ up) ++ bs) ≡ up =
-        three (in_right n) cl up bs
-        ∙ (λ i. (filter_none (in_right n) cl (each_implies (λ c. in_left n c ≡ true) (λ c. in_right n c ≡ false) cl (λ c e. ap (λ t. not t && list_all (λ k. not (nat_lt k n)) (over c)) e) in_l) i
-        ++ filter_all (in_right n) up (each_map (λ c. in_right n c ≡ true) (moved (λ k. n + k)) cr (each_implies Some (λ c. in_right n (moved (λ k. n + k) c) ≡ true) cr (λ c s. λ i. not (not_left n c s i) && all_right n c i) some)) i)
-        ++ filter_none (in_right n) bs (each_implies (λ c. in_both n c ≡ true) (λ c. in_right n c ≡ false) bs (λ c e. no_right (in_left n c) (list_all (λ k. not (nat_lt k n)) (over c)) e) both) i)
-        ∙ append-nil up
+    three (in_right n) cl up bs
+    ∙ (λ i. (filter_none (in_right n) cl (each_implies (λ c. in_left n c ≡ true) (λ c. in_right n c ≡ false) cl (λ c e. ap (λ t. not t && list_all (λ k. not (nat_lt k n)) (over c)) e) in_l) i
+    ++ filter_all (in_right n) up (each_map (λ c. in_right n c ≡ true) (moved (λ k. n + k)) cr (each_implies Some (λ c. in_right n (moved (λ k. n + k) c) ≡ true) cr (λ c s. λ i. not (not_left n c s i) && all_right n c i) some)) i)
+    ++ filter_none (in_right n) bs (each_implies (λ c. in_both n c ≡ true) (λ c. in_right n c ≡ false) bs (λ c e. no_right (in_left n c) (list_all (λ k. not (nat_lt k n)) (over c)) e) both) i)
+    ∙ append-nil up
     in
     let boths : filter (in_both n) ((cl ++ up) ++ bs) ≡ bs =
-        three (in_both n) cl up bs
-        ∙ (λ i. (filter_none (in_both n) cl (each_implies (λ c. in_left n c ≡ true) (λ c. in_both n c ≡ false) cl (λ c e. ap (λ t. not t && not (list_all (λ k. not (nat_lt k n)) (over c))) e) in_l) i
-        ++ filter_none (in_both n) up (each_map (λ c. in_both n c ≡ false) (moved (λ k. n + k)) cr (each_implies Some (λ c. in_both n (moved (λ k. n + k) c) ≡ false) cr (λ c s. λ i. not (not_left n c s i) && not (all_right n c i)) some)) i)
-        ++ filter_all (in_both n) bs both i)
+    three (in_both n) cl up bs
+    ∙ (λ i. (filter_none (in_both n) cl (each_implies (λ c. in_left n c ≡ true) (λ c. in_both n c ≡ false) cl (λ c e. ap (λ t. not t && not (list_all (λ k. not (nat_lt k n)) (over c))) e) in_l) i
+    ++ filter_none (in_both n) up (each_map (λ c. in_both n c ≡ false) (moved (λ k. n + k)) cr (each_implies Some (λ c. in_both n (moved (λ k. n + k) c) ≡ false) cr (λ c s. λ i. not (not_left n c s i) && not (all_right n c i)) some)) i)
+    ++ filter_all (in_both n) bs both i)
     in
     ap (λ l'. settle l' (inner_join x y l r)) (conditions_inner cs x y l r f)
     ∙ (λ i. stand (boths i) (inner_join x y (settle (lefts i) l) (settle (map (moved (λ k. k - n)) (rights i)) r)))
@@ -247,13 +246,13 @@ settled_again cs (left_join x y l r) b f =
     let in_l : Each (λ c. in_left n c ≡ true) cl = kept (λ c. in_left n c ≡ true) ls l b.0 fl (passing (in_left n) cs) in
     let out : Each (λ c. not (in_left n c) ≡ true) os = passing (λ c. not (in_left n c)) cs in
     let lefts : filter (in_left n) (cl ++ os) ≡ cl =
-        filter_append (in_left n) cl os
-        ∙ (λ i. filter_all (in_left n) cl in_l i ++ filter_none (in_left n) os (each_implies (λ c. not (in_left n c) ≡ true) (λ c. in_left n c ≡ false) os (λ c e. not_true (in_left n c) e) out) i)
-        ∙ append-nil cl
+    filter_append (in_left n) cl os
+    ∙ (λ i. filter_all (in_left n) cl in_l i ++ filter_none (in_left n) os (each_implies (λ c. not (in_left n c) ≡ true) (λ c. in_left n c ≡ false) os (λ c e. not_true (in_left n c) e) out) i)
+    ∙ append-nil cl
     in
     let others : filter (λ c. not (in_left n c)) (cl ++ os) ≡ os =
-        filter_append (λ c. not (in_left n c)) cl os
-        ∙ (λ i. filter_none (λ c. not (in_left n c)) cl (each_implies (λ c. in_left n c ≡ true) (λ c. not (in_left n c) ≡ false) cl (λ c e. ap not e) in_l) i ++ filter_all (λ c. not (in_left n c)) os out i)
+    filter_append (λ c. not (in_left n c)) cl os
+    ∙ (λ i. filter_none (λ c. not (in_left n c)) cl (each_implies (λ c. in_left n c ≡ true) (λ c. not (in_left n c) ≡ false) cl (λ c e. ap not e) in_l) i ++ filter_all (λ c. not (in_left n c)) os out i)
     in
     ap (λ l'. settle l' (left_join x y l r)) (conditions_left cs x y l r f)
     ∙ (λ i. stand (others i) (left_join x y (settle (lefts i) l) r))

@@ -1,14 +1,13 @@
 -- The table of a number is found by its name.
-use Rattle.std.proofs.Common.{◌≡◌, ◌≢◌, ℕ, zero, suc, ◌+◌, ◌<◌, ◌≤◌, Bool, true, false, ◌||◌, cond, List, [], ◌∷◌, map, length, refl, sym, ap, ◌∙◌, arith}
+use Rattle.std.proofs.Common.{◌≡◌, ◌≢◌, ℕ, zero, suc, ◌<◌, ◌≤◌, true, false, ◌||◌, cond, List, [], ◌∷◌, map, length, refl, ap, ◌∙◌, arith}
 use Rattle.std.specs.List.{All, list_any}
 use Rattle.std.specs.Str.{bytes_eq}
 use Rattle.std.proofs.lemmas.List.Elements.{All-head, All-tail}
 use Rattle.wt_bag.specs.Bags.{Each}
 use Rattle.wt_bag.specs.Choices.{Apart}
 use Rattle.wt_schema.specs.declared.schema.Column as schema_columns
-use Rattle.wt_schema.specs.declared.schema.ColKind.{ColKind}
 use Rattle.wt_schema.specs.declared.schema.Table.{Table}
-use Rattle.wt_schema.specs.Lawful.{IsName, IsSchema, IsTable, width_of}
+use Rattle.wt_schema.specs.Lawful.{IsSchema, IsTable, width_of}
 use Rattle.wt_query_rows.specs.Scopes.{columns_named, column_names}
 use Rattle.wt_plan.specs.Regular.{column_kinds, table_kinds}
 use Rattle.wt_plan.proofs.Upto.{length_map}

@@ -1,5 +1,5 @@
 -- A test over a zone is resolved to the test that it was made from, without a fault.
-use Rattle.std.proofs.Common.{◌≡◌, ◌≢◌, ℕ, zero, suc, ◌+◌, ◌<◌, ◌≤◌, Bool, true, false, ◌&&◌, not, List, [], ◌∷◌, ◌++◌, map, filter, length, get_or, None, refl, sym, ap, subst, ◌∙◌, arith}
+use Rattle.std.proofs.Common.{◌≡◌, ℕ, ◌+◌, ◌<◌, true, ◌&&◌, not, List, [], ◌∷◌, map, length, get_or, None, refl, sym, ap, ◌∙◌, arith}
 use Rattle.std.specs.List.{list_any, list_all}
 use Rattle.std.proofs.lemmas.List.{get_or-map}
 use Rattle.wt_bag.specs.Bags.{Each}
@@ -13,16 +13,15 @@ use Rattle.wt_pred.specs.Tree.{PredTree, PredTrees, compare, is_null, is_not_nul
 use Rattle.wt_pred.specs.Columns.{operand_columns, occurring, occurring_in, operand_renumbered, renumbered, all_renumbered}
 use Rattle.wt_schema.specs.declared.schema.ColKind.{ColKind}
 use Rattle.wt_schema.specs.declared.schema.ColKind.TheVariants as kinds
-use Rattle.wt_ast.specs.declared.tree.ColumnName.{ColumnName}
 use Rattle.wt_query_rows.specs.declared.scope.ScopeColumn.{ScopeColumn}
-use Rattle.wt_query_rows.specs.Scopes.{fits, in_scope}
+use Rattle.wt_query_rows.specs.Scopes.{fits}
 use Rattle.wt_query_rows.specs.Rows.{sign_of}
 use Rattle.wt_plan.specs.Regular.{kind_at, kinds_at, value_kind, operand_kind, Typed, AllTyped}
 use Rattle.wt_query_plan.specs.Building.{place_of, operand_of, pred_of, preds_of}
-use Rattle.wt_query_plan.specs.Faults.{Fault, first_of, fault_if, name_fault, column_fault, columns_fault, scalar_fault, compare_fault, list_fault, test_fault, tests_fault, kind_same, kinds_same, column_kind}
+use Rattle.wt_query_plan.specs.Faults.{first_of, fault_if, name_fault, column_fault, columns_fault, scalar_fault, test_fault, tests_fault, kind_same, kinds_same, column_kind}
 use Rattle.wt_query_plan.specs.declared.fault.BuildFault.TheVariants as faults
 use Rattle.wt_blocks.specs.Printed.{column_at, columns_at, word_of, operand_column, scalar_of, test_tree, test_trees}
-use Rattle.wt_blocks.proofs.Naming.{each_at, AllDiffer, Found, Stands, found_there}
+use Rattle.wt_blocks.proofs.Naming.{each_at, AllDiffer, Stands, found_there}
 
 pub sign_word : (s : Cmp) → sign_of (word_of s) ≡ s
 sign_word signs.Eq = refl

@@ -5,7 +5,6 @@ use Rattle.wt_bag.specs.Choices.{Apart}
 use Rattle.wt_bag.proofs.EachLaws.{each_append, each_map, each_for, each_implies}
 use Rattle.wt_schema.specs.declared.schema.Table.{Table}
 use Rattle.wt_schema.specs.Lawful.{IsSchema}
-use Rattle.wt_ast.specs.Tree.{FromTree, CondTree}
 use Rattle.wt_ast.specs.Lawful.{is_comma}
 use Rattle.wt_query_rows.specs.declared.scope.ScopeColumn.{ScopeColumn}
 use Rattle.wt_query_rows.specs.Scopes.{in_scope, scope_of}
@@ -84,7 +83,7 @@ module _ (S : List Table) where
   pub apart_by_number : (m hi : ℕ) (xs ys : List ScopeColumn) (lo : ℕ) → hi ≤ 2 ^ 64 → Each (Numbered lo m) xs → Each (Numbered m hi) ys → Each (λ s. Each (Differ s) ys) xs
   apart_by_number m hi xs ys lo room h k =
       each_implies (Numbered lo m) (λ s. Each (Differ s) ys) xs (λ s a. each_implies (Numbered m hi) (Differ s) ys (λ t b. other_alias s t (λ e. let same : a.0 ≡ b.0 =
-          alias_injective a.0 b.0 (omega (arith, a.2, b.1, b.2, room)) (omega (arith, b.2, room)) (sym a.3 ∙ e ∙ b.3) in let bad : ⊥ = omega (arith, a.2, b.1, same) in bad)) k) h
+      alias_injective a.0 b.0 (omega (arith, a.2, b.1, b.2, room)) (omega (arith, b.2, room)) (sym a.3 ∙ e ∙ b.3) in let bad : ⊥ = omega (arith, a.2, b.1, same) in bad)) k) h
 
   module _ (schema : IsSchema S) where
     pub columns_apart : (n : ℕ) (z : Zone) → ZoneFits S z → n + from_items z ≤ 2 ^ 64 → AllDiffer (zone_columns S n z)

@@ -1,6 +1,6 @@
 -- The query tree of a plan with names. FROM items have the aliases q0, q1, .. in the order of their first bytes in the text,
 -- over the whole query; derived tables have the columns c0, c1, .. Each offset in the tree is 0.
-use Rattle.std.specs.Prelude.{ℕ, zero, suc, ◌+◌, Bool, true, false, ◌&&◌, List, [], ◌∷◌, ◌++◌, map, length, get_or, codes, Option, Some, None}
+use Rattle.std.specs.Prelude.{ℕ, zero, suc, ◌+◌, Bool, true, false, ◌&&◌, List, [], ◌∷◌, ◌++◌, map, get_or, codes, Option, Some, None}
 use Rattle.std.specs.Fmt.{decimal}
 use Rattle.std.specs.Str.{bytes_eq}
 use Rattle.wt_pred.specs.declared.tree.Cmp.{Cmp}

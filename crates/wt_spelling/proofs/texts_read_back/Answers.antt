@@ -1,0 +1,4 @@
+use Rattle.wt_spelling.proofs.texts_read_back.Goals as goal
+
+pub returns : goal.returns
+returns c = ?

@@ -1,8 +1,7 @@
 -- The text of a query in bits: blanks and tokens, each as it is written.
-use Rattle.std.proofs.Common.{◌≡◌, ℕ, suc, ◌^◌, ◌≤◌, Bool, true, false, List, [], ◌∷◌, ◌++◌, codes, Option, Some, None, pos, negsuc}
+use Rattle.std.proofs.Common.{ℕ, suc, Bool, true, false, List, [], ◌∷◌, ◌++◌, codes, Option, Some, None, pos, negsuc}
 use Rattle.std.specs.Prelude.{map, if◌then◌else◌, decimal}
 use Rattle.std.specs.Char.{to_ascii_uppercase}
-use Rattle.std.specs.Str.{IsUtf8}
 use Rattle.wt_value.specs.declared.value.Value.{Value}
 use Rattle.wt_value.specs.declared.value.Value.TheVariants as values
 use Rattle.wt_lex.specs.declared.token.Sym.{Sym}

@@ -1,22 +1,19 @@
 -- The tokens of bits, as a grammar sees them.
-use Rattle.std.proofs.Common.{◌≡◌, ℕ, ◌+◌, Bool, true, false, List, [], ◌∷◌, ◌++◌, length, refl, ap, sym, ◌∙◌, subst, arith, append_assoc, append-nil, length-append, Option, Some, None}
+use Rattle.std.proofs.Common.{◌≡◌, ℕ, ◌+◌, Bool, true, false, List, [], ◌∷◌, ◌++◌, length, refl, ap, sym, ◌∙◌, subst, append_assoc, length-append}
 use Rattle.std.specs.Prelude.{map, if◌then◌else◌, decimal, codes}
-use Rattle.std.specs.Str.{bytes_eq}
 use Rattle.std.proofs.lemmas.Slice.Eq.{bytes_eq-Decides}
 use Rattle.wt_lex.specs.declared.token.Sym.{Sym}
 use Rattle.wt_lex.specs.declared.token.Token.{Token}
-use Rattle.wt_lex.specs.declared.token.TokenKind.{TokenKind}
 use Rattle.wt_lex.specs.declared.token.TokenKind.TheVariants as kinds
 use Rattle.wt_lex.specs.declared.words.Word.{Word}
 use Rattle.wt_lex.specs.Names.{keyword, is_word, spelled, folded, name_bytes, text_bytes}
-use Rattle.wt_lex.specs.Spelling.{Piece, item, written, quoted, symbol_written, token, made, tokens_at, FallsInto, all_written}
+use Rattle.wt_lex.specs.Spelling.{Piece, item, written, quoted, symbol_written, token, made, tokens_at, FallsInto}
 use Rattle.wt_lex.specs.Words.{spelling, is_bare}
 use Rattle.wt_lex.proofs.Returning.{spelled_at, quoted_name, quoted_text, bare_name, bare_free}
 use Rattle.wt_lex.proofs.Reserving.{keyword_is, lower}
-use Rattle.wt_reading.specs.declared.lexeme.Kind.{Kind}
 use Rattle.wt_reading.specs.declared.lexeme.Kind.TheVariants.{Key, Name, Number, Text, Mark}
 use Rattle.wt_reading.specs.declared.lexeme.Lexeme.{Lexeme}
-use Rattle.wt_reading.specs.Lexemes.{Tokens, lexeme, kind_by, word_kind}
+use Rattle.wt_reading.specs.Lexemes.{Tokens, lexeme, word_kind}
 use Rattle.wt_reading.specs.Sentences.{Seq}
 use Rattle.wt_grammar.specs.Reading.{name_at, text_at}
 use Rattle.wt_spelling.specs.Spelling.{name_text}
@@ -52,7 +49,7 @@ module _ (bytes : List ℕ) where
 
   -- ---- what stands in the bytes
 
-  pub key_shown : (before rest : List ℕ) (w : Word) → bytes ≡ before ++ (capitals w ++ rest) → (lexeme bytes (token kinds.Word (length before) (length (capitals w)))).kind ≡ Key w
+  key_shown : (before rest : List ℕ) (w : Word) → bytes ≡ before ++ (capitals w ++ rest) → (lexeme bytes (token kinds.Word (length before) (length (capitals w)))).kind ≡ Key w
   unfolding lexeme
   key_shown before rest w e =
       let t = token kinds.Word (length before) (length (capitals w)) in
@@ -91,7 +88,7 @@ module _ (bytes : List ℕ) where
 
   -- ---- all of them
 
-  pub name_written : (n : List ℕ) → written (piece_of (a_name n)) ≡ name_text n
+  name_written : (n : List ℕ) → written (piece_of (a_name n)) ≡ name_text n
   name_written n = by (is_bare n)
     where
       by : (t : Bool) → written (if t then item kinds.Word n else item kinds.Quoted (quoted 34 n)) ≡ (if t then n else quoted 34 n)
@@ -135,7 +132,7 @@ module _ (bytes : List ℕ) where
       by true shown others = (_, _, refl, shown, others)
       by false shown others = (_, _, refl, shown, others)
 
-cuts_bit : (b : Bit) → written (piece_of b) ≡ bit_text b
+pub cuts_bit : (b : Bit) → written (piece_of b) ≡ bit_text b
 cuts_bit (a_name n) = name_written [] n
 cuts_bit _ = refl
 

@@ -1,19 +1,18 @@
 -- The text of a query is its bits, each of which may stand before the next.
-use Rattle.std.proofs.Common.{◌≡◌, ℕ, ◌≤◌, Bool, true, false, List, [], ◌∷◌, ◌++◌, codes, refl, Option, Some, None}
+use Rattle.std.proofs.Common.{ℕ, Bool, true, false, List, [], ◌∷◌, ◌++◌, codes, refl}
 use Rattle.wt_lex.specs.declared.words.Word.{Word}
 use Rattle.wt_lex.specs.declared.words.Word.TheVariants as word
-use Rattle.wt_ast.specs.declared.tree.ColumnName.{ColumnName}
 use Rattle.wt_ast.specs.declared.tree.CmpWord.{CmpWord}
 use Rattle.wt_ast.specs.declared.tree.CmpWord.TheVariants as signs
 use Rattle.wt_ast.specs.declared.tree.Scalar.{Scalar}
 use Rattle.wt_ast.specs.Tree.{QueryTree, FilterTree, FromTree, CondTree, CondTrees, select, no_filter, filter_by, table, derived, inner_join, left_join, right_join, comma, compare, is_null, is_not_null, in_list, in_query, all_of, any_of, negated, no_conds, cond_then}
-use Rattle.wt_ast.specs.Lawful.{IsName, IsColumn, IsLiteral, IsItem, OneOrMore, IsFormed, IsFilter, IsFrom, IsCond, AreConds}
+use Rattle.wt_ast.specs.Lawful.{IsLiteral, IsItem, IsFormed, IsFilter, IsFrom, IsCond, AreConds}
 use Rattle.wt_value.specs.declared.value.Value.{Value}
 use Rattle.std.specs.List.{AllByRecursion}
 use Rattle.wt_spelling.specs.Numbers.{Fits, FitsFilter, FitsFrom, FitsCond, FitsConds, FitsValue}
-use Rattle.wt_spelling.specs.Spelling.{query_text, filter_text, from_text, cond_text, parts_text, more_text, whole_text, item_text, value_text, columns_text, bracketed, stands_in_brackets, is_or, is_join, sign_text, scalar_text}
-use Rattle.wt_spelling.proofs.Bits.{query_bits, filter_bits, from_bits, cond_bits, parts_bits, more_bits, whole_bits, item_bits, value_bits, bracketed_bits, capitals, spaced, Bit}
-use Rattle.wt_spelling.proofs.Standing.{Breaks, Tight, Loose, tight_then, tight_last, loose_then, loose_last, as_tight, nothing, blank_loose, word_tight, spaced_loose, spaced_two_loose, select_loose, not_loose, open_loose, close_loose, comma_loose, in_loose, sign_loose, name_tight, column_tight, scalar_tight, value_tight, listed_tight, as_break, as_name_tight, item_tight, distinct_loose, columns_break, columns_tight, bracketed_tight, tuple_tight}
+use Rattle.wt_spelling.specs.Spelling.{query_text, filter_text, from_text, cond_text, parts_text, more_text, item_text, value_text, stands_in_brackets, is_or, is_join, sign_text, scalar_text}
+use Rattle.wt_spelling.proofs.Bits.{query_bits, filter_bits, from_bits, cond_bits, parts_bits, more_bits, item_bits, value_bits, capitals, spaced, Bit}
+use Rattle.wt_spelling.proofs.Standing.{Breaks, Tight, Loose, tight_then, tight_last, loose_then, loose_last, as_tight, nothing, word_tight, spaced_loose, spaced_two_loose, select_loose, not_loose, open_loose, close_loose, comma_loose, in_loose, sign_loose, name_tight, column_tight, scalar_tight, value_tight, listed_tight, as_break, as_name_tight, item_tight, distinct_loose, columns_break, columns_tight, bracketed_tight, tuple_tight}
 
 filter_break : (w : FilterTree) (rest : List ℕ) → Breaks rest → Breaks (filter_text w ++ rest)
 filter_break no_filter rest h = h

@@ -1,7 +1,6 @@
 -- Each bit of a query's text may stand before what is written behind it.
-use Rattle.std.proofs.Common.{◌≡◌, ℕ, suc, ◌+◌, ◌^◌, ◌<◌, ◌≤◌, Bool, true, false, inl, inr, List, [], ◌∷◌, ◌++◌, length, codes, refl, ap, sym, ◌∙◌, subst, arith, append_assoc, Option, Some, None, pos, negsuc, FitsSigned}
+use Rattle.std.proofs.Common.{◌≡◌, ℕ, suc, ◌^◌, ◌≤◌, Bool, true, false, inl, List, [], ◌∷◌, ◌++◌, length, codes, refl, sym, subst, arith, append_assoc, Option, Some, None, pos, negsuc}
 use Rattle.std.specs.Prelude.{if◌then◌else◌, ◌==◌, ◌||◌, not, decimal}
-use Rattle.std.specs.Int.{w64}
 use Rattle.std.specs.Char.{is_ascii_digit}
 use Rattle.std.specs.List.{AllByRecursion}
 use Rattle.std.specs.Str.{is_utf8}
@@ -15,7 +14,7 @@ use Rattle.wt_lex.specs.declared.words.Word.{Word}
 use Rattle.wt_lex.specs.declared.words.Word.TheVariants as word
 use Rattle.wt_lex.specs.Fronts.{begins_word, spoils}
 use Rattle.wt_lex.specs.Names.{folded}
-use Rattle.wt_lex.specs.Spelling.{EndsBefore, Are, goes_on_word, quoted, symbol_written, IsLongest, IsItem, IsPiece, item}
+use Rattle.wt_lex.specs.Spelling.{EndsBefore, Are, goes_on_word, quoted, symbol_written, IsLongest, IsPiece, item}
 use Rattle.wt_lex.specs.Words.{spelling, is_bare}
 use Rattle.wt_lex.proofs.Returning.{bare_item, decimal_item}
 use Rattle.wt_lex.proofs.Symbols.{longest_two, longest_one, longest_end}
@@ -30,7 +29,7 @@ use Rattle.wt_ast.specs.Lawful.{IsName, IfWritten, OneOrMore, IsColumn, IsItem a
 use Rattle.wt_grammar.specs.Statements.{is_semicolon}
 use Rattle.wt_spelling.specs.Numbers.{FitsValue, FitsScalar}
 use Rattle.wt_spelling.specs.Spelling.{name_text, before_dot, column_text, value_text, scalar_text, others_text, listed, as_text, item_text, distinct_text, columns_text, sign_text, bracketed, is_tuple, tuple_text}
-use Rattle.wt_spelling.proofs.Bits.{Bit, a_blank, a_word, a_sign, a_name, a_number, a_text, capitals, bit_text, piece_of, before_dot_bits, column_bits, value_bits, scalar_bits, others_bits, listed_bits, name_bits, spaced, spaced_two, as_bits, item_bits, distinct_bits, opened, closed, columns_bits, spaced_sign, sign_of, bracketed_bits, tuple_bits, in_bits}
+use Rattle.wt_spelling.proofs.Bits.{Bit, a_blank, a_word, a_sign, a_name, a_number, a_text, capitals, bit_text, piece_of, before_dot_bits, column_bits, value_bits, scalar_bits, others_bits, listed_bits, name_bits, spaced, spaced_two, as_bits, item_bits, distinct_bits, opened, closed, columns_bits, spaced_sign, bracketed_bits, tuple_bits, in_bits}
 
 -- a byte that may stand behind any bit: a blank, `)`, `,` and `;`
 abbrev pub is_break : ℕ → Bool

@@ -16,6 +16,7 @@ pub use laws::{
     sides_depend_on_tables_as_bags,
 };
 pub use meeting::meets;
+pub use named::{Cell, Column};
 pub use std::alloc::AllocError as WantOfMemory;
 
 fn may_be_shared<T: Send + Sync>() {}

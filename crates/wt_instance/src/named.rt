@@ -9,14 +9,14 @@ use wt_value::{Row, Rows, Seq, Value};
 
 /// The name of a column: a leaf and a number.
 #[derive(Clone, Copy, Debug, PartialEq, Eq)]
-pub(crate) struct Column {
+pub struct Column {
     pub leaf: u8,
     pub number: usize,
 }
 
 /// A value under the name of its column.
 #[derive(Clone, Debug, PartialEq, Eq, Drop)]
-pub(crate) struct Cell {
+pub struct Cell {
     pub column: Column,
     pub value: Value,
 }

@@ -1,0 +1,14 @@
+pub mod Rebuilt
+pub mod Fitting
+pub mod Naming
+pub mod Numbering
+pub mod Tested
+pub mod Tables
+pub mod Zones
+pub mod Conjuncts
+pub mod Planned
+pub mod Faults
+pub mod Root
+pub mod Formed
+pub mod Settled
+pub mod Lawful

@@ -1,0 +1,16 @@
+pub mod Lists
+pub mod Assigning
+pub mod Congruence
+pub mod FillLaws
+pub mod Applying
+pub mod Finding
+pub mod FindLaws
+pub mod FoundLaws
+pub mod MatchLaws
+pub mod SubAttrLaws
+pub mod WidthLaws
+pub mod Closing
+pub mod Whole
+pub mod Subplans
+pub mod Premises
+pub mod Final

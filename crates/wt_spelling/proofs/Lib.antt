@@ -1,0 +1,9 @@
+pub mod Bits
+pub mod ReadBack
+pub mod ReadMarks
+pub mod ReadParts
+pub mod ReadQueries
+pub mod Shown
+pub mod Spelled
+pub mod Standing
+pub mod Utf8

@@ -1,6 +1,6 @@
 -- The line of a statement from what the reader answered, and a place in a list of statements.
 use Rattle.std.proofs.Common.{◌≡◌, ◌∙◌, ℕ, ◌+◌, ◌<◌, List, [], ◌++◌, length, take, drop, map, ap, sym, subst, arith, inl, inr}
-use Rattle.std.specs.Prelude.{Some, Ok, Err, Result, IfOk, slice_get}
+use Rattle.std.specs.Prelude.{None, Some, Ok, Err, Result, IfOk, slice_get}
 use Rattle.std.specs.Io.KnownBytes.{append_known}
 use Rattle.std.specs.declared.option.Option.{Option}
 use Rattle.std.proofs.lemmas.List.{take-append-drop, map-append}
@@ -13,7 +13,13 @@ use Rattle.wt_tool.specs.declared.line.Line.{Line}
 use Rattle.wt_io.proofs.Written.{append_known-twice}
 use Rattle.wt_tool.specs.declared.stop.Stop.{Stop}
 use Rattle.wt_tool.specs.Outcomes.{AppendsPrefix, Stops}
-use Rattle.wt_tool.specs.Rewriting.{answer_line, lines_text, statement_line, tree_line}
+use Rattle.wt_tool.specs.Rewriting.{answer_line, line_told, lines_text, printed_line, statement_line, tree_line}
+use Rattle.wt_plan.specs.Tree.{PlanTree}
+use Rattle.wt_place.specs.Placing.{placed}
+use Rattle.wt_query_rows.specs.Scopes.{output_names}
+use Rattle.wt_query_plan.specs.Building.{planned}
+use Rattle.wt_query_plan.specs.Faults.{query_fault}
+use Rattle.wt_blocks.specs.Printed.{printed}
 use Rattle.wt_tool.proofs.LinesOf.{text-take, text_split}
 use Rattle.wt_tool.proofs.Putting.{prefix_after, prefix_none, stops_after}
 
@@ -25,6 +31,12 @@ if_ok (Err e) P Q f h = tt
 pub line_read : (tables : List Table) (bytes : List ℕ) (s : Statement) (tree : QueryTree) (line : Line)
     → answer bytes s ≡ Ok tree → line ≡ tree_line tables tree → line ≡ statement_line tables bytes s
 line_read tables bytes s tree line read is = is ∙ ap (answer_line tables) (sym read)
+
+-- the line of a plan that was told for a query without a fault
+pub tree_told : (tables : List Table) (tree : QueryTree) (plan : PlanTree) (names : List (List ℕ)) (line : Line) → query_fault tables [] tree ≡ None → plan ≡ placed (planned tables tree) → names ≡ output_names tables tree
+    → line ≡ printed_line (printed tables plan names) → line ≡ tree_line tables tree
+tree_told tables tree plan names line none is are e =
+    e ∙ (ap printed_line (ap (λ p. printed tables p names) is ∙ ap (printed tables (placed (planned tables tree))) are) ∙ ap (line_told tables tree) (sym none))
 
 -- there is an element at a place within a list
 pub some_at : {A : Type 0} (xs : List A) (i : ℕ) → i < length xs → (x : A) × (slice_get xs i ≡ Some x)

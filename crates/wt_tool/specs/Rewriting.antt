@@ -54,13 +54,13 @@ refusal_line kind at = record { text = codes "-- refused " ++ (kind ++ (codes " 
 abbrev pub printed_line : QueryTree → Line
 printed_line query = record { text = ended (statement_text query); refused = false }
 
--- a statement that was read: its first fault, or else the query that is printed for it
+-- a statement that was read: the query that is printed for it, or its first fault
+abbrev pub line_told : List Table → QueryTree → Fault → Line
+line_told tables tree None = printed_line (rewritten tables tree)
+line_told tables tree (Some (fault, place)) = refusal_line (build_name fault) place
+
 abbrev pub tree_line : List Table → QueryTree → Line
-tree_line tables tree = told_line (query_fault tables [] tree)
-  where
-    told_line : Fault → Line
-    told_line None = printed_line (rewritten tables tree)
-    told_line (Some (fault, place)) = refusal_line (build_name fault) place
+tree_line tables tree = line_told tables tree (query_fault tables [] tree)
 
 abbrev pub refusal_name : Refusal → List ℕ
 refusal_name (refused fault) = query_name fault

@@ -1,5 +1,5 @@
 -- Which words are which command, of those that are built.
-use Rattle.std.specs.Prelude.{◌≡◌, ℕ, ◌==◌, List, Bool, Result, Ok, Err, if◌then◌else◌}
+use Rattle.std.specs.Prelude.{◌≡◌, ℕ, ◌==◌, List, Result, Ok, Err, if◌then◌else◌}
 use Rattle.wt_pair.specs.declared.bounds.Bounds.{Bounds}
 use Rattle.wt_pair.specs.Candidates.{IsWithinLimits}
 use Rattle.wt_words.specs.declared.fault.UsageFault.{UsageFault}

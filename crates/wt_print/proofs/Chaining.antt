@@ -1,5 +1,5 @@
 -- The links of a FROM clause, one more or one less at the end of their list.
-use Rattle.std.proofs.Common.{Bor, ◌≡◌, ℕ, ◌≤◌, List, [], ◌∷◌, ◌++◌, refl, ap, sym, ◌∙◌, append_assoc, append-nil}
+use Rattle.std.proofs.Common.{Bor, ◌≡◌, ℕ, ◌≤◌, List, [], ◌∷◌, ◌++◌, ap, sym, ◌∙◌, append_assoc, append-nil}
 use Rattle.wt_ast.specs.declared.tree.FromPart.{FromPart, size-FromPart}
 use Rattle.wt_ast.specs.Tree.{from_tree}
 use Rattle.wt_print.specs.Links.{link_text, links_text, LinkFits, LinksFit, AreWithin}

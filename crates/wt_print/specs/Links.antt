@@ -1,10 +1,10 @@
 -- Of contracts of private functions alone: a FROM clause as its first part and what stands behind it, from the last join back.
 use Rattle.std.proofs.Common.{Bor}
 use Rattle.std.specs.Prelude.{ℕ, ◌≤◌, List, [], ◌∷◌, ◌++◌, codes}
-use Rattle.wt_ast.specs.Tree.{FromTree, table, derived, inner_join, left_join, right_join, comma}
+use Rattle.wt_ast.specs.Tree.{FromTree, inner_join, left_join, right_join, comma}
 use Rattle.wt_ast.specs.declared.tree.FromPart.{FromPart, size-FromPart}
 use Rattle.wt_ast.specs.Tree.{from_tree, CondTree}
-use Rattle.wt_spelling.specs.Numbers.{Fits, FitsFrom, FitsCond}
+use Rattle.wt_spelling.specs.Numbers.{FitsFrom, FitsCond}
 use Rattle.wt_spelling.specs.Spelling.{from_text, whole_text, bracketed, is_join}
 
 -- the words of a join, its right operand and its condition

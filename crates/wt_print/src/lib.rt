@@ -16,6 +16,9 @@ use wt_ast::Query;
 use wt_spelling::texts_read_back;
 use wt_value::{Bytes, WantOfMemory};
 
+// The room that a text begins with, in bytes: most need no more.
+const SHORT_LINE: usize = 128;
+
 /// The one text of a query, which ends in `;` and has no line end of its own.
 pub fn print_query(alloc: Global, query: &Query) -> Result<Bytes, WantOfMemory>
     ensures exact { IfOk result (λ line. line ≡ statement_text (query_tree query.now)) }
@@ -23,7 +26,7 @@ pub fn print_query(alloc: Global, query: &Query) -> Result<Bytes, WantOfMemory>
     ensures reads_back { IfOk result (λ line. IsFormed (query_tree query.now) → IsWithin line (query_tree query.now) → ReadsAs line (query_tree query.now)) }
 {
     texts_read_back();
-    let mut out = Vec::new(alloc);
+    let mut out = Vec::with_capacity(alloc, SHORT_LINE)?;
     queries::add_query(alloc, &mut out, query)?;
     out.extend_from_slice(b";")?;
     Ok(Bytes::from_vec(out))

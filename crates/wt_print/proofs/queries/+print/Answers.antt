@@ -1,6 +1,5 @@
-use Rattle.std.proofs.Common.{◌≡◌, ◌++◌, ◌∷◌, [], ◌∙◌, ◌≤◌, ap, sym, subst, rules, arith, append_assoc, codes}
+use Rattle.std.proofs.Common.{◌++◌, ◌∙◌, ◌≤◌, ap, sym, subst, rules, arith, append_assoc, codes}
 use Rattle.wt_ast.specs.declared.tree.FromPart.{size-FromPart}
-use Rattle.wt_ast.specs.declared.tree.CondKind.TheVariants.{IsNotNull}
 use Rattle.wt_ast.specs.Tree.{condition_tree, from_tree, kind_tree}
 use Rattle.wt_print.specs.Links.{join_text, link_text, links_text, LinksFit, AreWithin}
 use Rattle.wt_spelling.specs.Spelling as spec

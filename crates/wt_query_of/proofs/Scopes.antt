@@ -2,7 +2,8 @@
 use Rattle.std.proofs.Common.{◌≡◌, List, [], ◌∷◌, ◌++◌, map, append_assoc, refl, sym, ap, ◌∙◌}
 use Rattle.wt_schema.specs.declared.schema.Table.{Table}
 use Rattle.wt_ast.specs.declared.tree.Condition.{Condition}
-use Rattle.wt_ast.specs.Tree.{condition_tree, CondTree}
+use Rattle.wt_ast.specs.Tree.{condition_tree}
+use Rattle.wt_ast.proofs.Views.{query_view}
 use Rattle.wt_tree_parts.specs.declared.leaf.Leaf.{Leaf}
 use Rattle.wt_tree_parts.specs.Leaves.{leaf_scope, scope_of_leaves}
 
@@ -15,3 +16,5 @@ trees_both [] ys = refl
 trees_both (x ∷ xs) ys = ap (λ l. condition_tree x ∷ l) (trees_both xs ys)
 
 pub ruleset scopes = (scope_both, trees_both)
+
+pub ruleset queries = (query_view)

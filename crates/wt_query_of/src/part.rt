@@ -241,7 +241,7 @@ pub(crate) fn member(
 }
 
 /// A query of its clauses.
-#[tactic(auto, using(Rattle.wt_ast.proofs.Views.query_view))]
+#[tactic(auto, using(crate::proofs::Scopes::queries))]
 pub(crate) fn finished(
     alloc: Global,
     distinct: bool,

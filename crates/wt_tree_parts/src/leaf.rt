@@ -25,6 +25,7 @@ pub struct Leaf {
 }
 
 /// The columns that a condition may name: those of some FROM items, over the tables of a schema.
+#[derive(Clone, Copy)]
 pub struct Sight<'a> {
     pub schema: &'a Schema,
     pub leaves: &'a [Leaf],

@@ -44,7 +44,7 @@ fn of_distinct(plan: &Plan, zone: Counts) -> u64
     }
 }
 
-pub(crate) fn counts(plan: &Plan) -> Counts
+pub(crate) fn counted(plan: &Plan) -> Counts
     requires { cost (plan_tree plan.now) < 2 ^ 62 }
     ensures from { result.from ≡ from_items (zone_of (plan_tree plan.now)) }
     ensures conditions { result.conditions ≡ condition_items (zone_of (plan_tree plan.now)) }
@@ -56,33 +56,33 @@ pub(crate) fn counts(plan: &Plan) -> Counts
             conditions: 0,
         },
         Plan::Proj(_, inner) => {
-            let zone = counts(inner);
+            let zone = counted(inner);
             Counts {
                 from: 1 + (zone.from + zone.conditions),
                 conditions: 0,
             }
         }
         Plan::Dedup(inner) => Counts {
-            from: 1 + of_distinct(inner, counts(inner)),
+            from: 1 + of_distinct(inner, counted(inner)),
             conditions: 0,
         },
-        Plan::Filter(_, _, inner) => counts(inner),
+        Plan::Filter(_, _, inner) => counted(inner),
         Plan::InSub(_, left, right) => {
-            let zone = counts(left);
+            let zone = counted(left);
             Counts {
                 from: zone.from,
-                conditions: zone.conditions + of_block(right, counts(right)),
+                conditions: zone.conditions + of_block(right, counted(right)),
             }
         }
         Plan::InnerJoin(_, _, left, right) => {
-            let (one, other) = (counts(left), counts(right));
+            let (one, other) = (counted(left), counted(right));
             Counts {
                 from: one.from + other.from,
                 conditions: one.conditions + other.conditions,
             }
         }
         Plan::LeftJoin(_, _, left, right) => {
-            let (one, other) = (counts(left), counts(right));
+            let (one, other) = (counted(left), counted(right));
             Counts {
                 from: one.from + (other.from + other.conditions),
                 conditions: one.conditions,

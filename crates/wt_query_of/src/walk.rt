@@ -10,7 +10,7 @@ ghost use Rattle.wt_blocks.specs.Counting.{block_items, from_items, condition_it
 ghost use Rattle.wt_blocks.specs.Printed as spec;
 ghost use Rattle.wt_tree_parts.specs.Leaves.{scope_of_leaves};
 
-use crate::counting::counts;
+use crate::counting::counted;
 use crate::part::{Part, derived_part, finished, inner_part, left_part, member, table_part, taken};
 use std::alloc::Global;
 use wt_ast::{Condition, Query};
@@ -106,7 +106,7 @@ pub(crate) fn zone(
     ensures conditions { OnOk result (map condition_tree conditions.new.items ≡ map condition_tree conditions.old.items ++ spec.condition_trees schema.now.tables next.old (next.old + from_items (zone_of (plan_tree plan.now))) (zone_of (plan_tree plan.now))) }
     ensures next { OnOk result (next.new ≡ next.old + (from_items (zone_of (plan_tree plan.now)) + condition_items (zone_of (plan_tree plan.now)))) }
 {
-    let mut behind = *next + counts(plan).from;
+    let mut behind = *next + counted(plan).from;
     let zone = part(alloc, schema, plan, next, &mut behind, conditions)?;
     *next = behind;
     Ok(zone)

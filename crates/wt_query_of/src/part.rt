@@ -192,10 +192,7 @@ pub(crate) fn inner_part(
     Ok(Part { from, leaves })
 }
 
-fn longer(
-    pairs: Vec<Condition>,
-    conditions: Vec<Condition>,
-) -> Result<Vec<Condition>, WantOfMemory>
+fn longer(pairs: Vec<Condition>, conditions: Vec<Condition>) -> Result<Vec<Condition>, WantOfMemory>
     ensures { IfOk result (λ cs. cs.items ≡ pairs.items ++ conditions.items) }
 {
     let (mut pairs, mut conditions) = (pairs, conditions);

@@ -134,10 +134,7 @@ pub fn push_pairs(
         let [y, more_rights @ ..] = b else {
             return Ok(());
         };
-        out.push(equality(
-            column_at(alloc, lefts, *x)?,
-            column_at(alloc, rights, *y)?,
-        ))?;
+        out.push(equality(column_at(alloc, lefts, *x)?, column_at(alloc, rights, *y)?))?;
         a = more_lefts;
         b = more_rights;
     }
@@ -149,12 +146,7 @@ fn equality(left: ColumnName, right: ColumnName) -> Condition
 {
     Condition {
         at: 0,
-        kind: CondKind::Compare(
-            CmpWord::Eq,
-            Scalar::Column(left),
-            Scalar::Column(right),
-            0,
-        ),
+        kind: CondKind::Compare(CmpWord::Eq, Scalar::Column(left), Scalar::Column(right), 0),
     }
 }
 
@@ -166,10 +158,7 @@ fn and_of(alloc: Global, conditions: Vec<Condition>) -> Result<Condition, WantOf
 }
 
 /// The conditions joined by AND; one alone is itself.
-pub fn together(
-    alloc: Global,
-    mut conditions: Vec<Condition>,
-) -> Result<Condition, WantOfMemory>
+pub fn together(alloc: Global, mut conditions: Vec<Condition>) -> Result<Condition, WantOfMemory>
     ensures { IfOk result (λ c. condition_tree c ≡ spec.together (map condition_tree conditions.items)) }
 {
     if conditions.len() != 1 {

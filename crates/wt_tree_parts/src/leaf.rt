@@ -47,11 +47,7 @@ pub fn table_columns(schema: &Schema, number: u32) -> &[Column]
 
 /// The name of the table of a number.
 #[tactic(auto, using(crate::proofs::Views::tables))]
-pub fn table_name(
-    alloc: Global,
-    schema: &Schema,
-    number: u32,
-) -> Result<Name, WantOfMemory>
+pub fn table_name(alloc: Global, schema: &Schema, number: u32) -> Result<Name, WantOfMemory>
     ensures { IfOk result (λ name. name ≡ spec.table_name schema.now.tables number) }
 {
     let tables = schema.tables.as_slice();
@@ -85,17 +81,15 @@ fn leaf_name(
     ensures { IfOk result (λ name. name ≡ get_or (leaf_names schema.now.tables columns) place name) }
 {
     match columns {
-        LeafColumns::Table(number) => Ok(table_columns(schema, number)[place as usize].name.clone()?),
+        LeafColumns::Table(number) => Ok(
+            table_columns(schema, number)[place as usize].name.clone()?,
+        ),
         LeafColumns::Places(_) => place_name(alloc, place),
     }
 }
 
 /// The column at a place among those of the FROM items.
-pub fn column_at(
-    alloc: Global,
-    sight: &Sight,
-    place: u32,
-) -> Result<ColumnName, WantOfMemory>
+pub fn column_at(alloc: Global, sight: &Sight, place: u32) -> Result<ColumnName, WantOfMemory>
     ensures { IfOk result (λ c. c ≡ spec.column_at (scope_of_leaves sight.now.schema.now.tables sight.now.leaves.now) place) }
 {
     let schema = sight.schema;
@@ -121,11 +115,7 @@ pub fn column_at(
 }
 
 /// The columns at these places.
-pub fn columns_at(
-    alloc: Global,
-    sight: &Sight,
-    cols: &[u32],
-) -> Result<ColumnNames, WantOfMemory>
+pub fn columns_at(alloc: Global, sight: &Sight, cols: &[u32]) -> Result<ColumnNames, WantOfMemory>
     ensures { IfOk result (λ cs. cs ≡ spec.columns_at (scope_of_leaves sight.now.schema.now.tables sight.now.leaves.now) cols.now) }
 {
     let mut columns = ColumnNames::new(alloc);

@@ -157,11 +157,10 @@ class Postgres:
 
     def answers(self, texts):
         """The bag of each text's rows, or its error."""
-        asked = ''.join(f'COPY ({text}\n) TO STDOUT;\n\\echo -- {i}\n' for i, text in enumerate(texts))
-        done = self.run(asked).stdout.decode()
-        parts = re.split(r'^-- \d+\n', done, flags=re.M)
-        asked_alone = lambda text: self.run(f'COPY ({text}\n) TO STDOUT;').stderr.decode()
-        return [bag_of_copy(part) if part or not asked_alone(texts[i]) else asked_alone(texts[i]) for i, part in enumerate(parts[:len(texts)])]
+        asked = ''.join(f'COPY ({text}\n) TO STDOUT;\n\\echo -- {i}\n\\warn -- {i}\n' for i, text in enumerate(texts))
+        done = self.run(asked)
+        rows, faults = (re.split(r'^-- \d+\n', told.decode(), flags=re.M)[:len(texts)] for told in (done.stdout, done.stderr))
+        return [fault or bag_of_copy(part) for part, fault in zip(rows, faults)]
 
     def stop(self):
         self.sh(f'{self.bin}/pg_ctl -D {self.folder}/db -m immediate stop')

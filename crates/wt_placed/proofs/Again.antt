@@ -104,8 +104,8 @@ each_kept (inner_join a b l r) k P cs s h =
     let one : Each P cl = each_kept l k.0 P (lefts a b l r cs s) (still_lefts a b l r cs s) (each_filter P (in_left n) cs h) in
     let there : Each (λ c. in_right n c ≡ true → P (moved (λ k. n + k) (moved (λ k. k - n) c))) cs = each_implies P (λ c. in_right n c ≡ true → P (moved (λ k. n + k) (moved (λ k. k - n) c))) cs (λ c p e. subst P (sym (moved_up n c e)) p) h in
     let two : Each P (map (moved (λ k. n + k)) cr) =
-        each_map P (moved (λ k. n + k)) cr
-        (each_kept r k.1 (λ c. P (moved (λ k. n + k) c)) (rights a b l r cs s) (still_rights a b l r cs s) (each_filter_map (λ c. P (moved (λ k. n + k) c)) (moved (λ k. k - n)) (in_right n) cs there)) in
+    each_map P (moved (λ k. n + k)) cr
+    (each_kept r k.1 (λ c. P (moved (λ k. n + k) c)) (rights a b l r cs s) (still_rights a b l r cs s) (each_filter_map (λ c. P (moved (λ k. n + k) c)) (moved (λ k. k - n)) (in_right n) cs there)) in
     let three : Each P (aboves a b l r cs s) = each_filter P (in_both n) cs h in
     subst (Each P) (sym (inner_gathered a b l r cs s)) (each_append P (cl ++ map (moved (λ k. n + k)) cr) (aboves a b l r cs s) (each_append P cl (map (moved (λ k. n + k)) cr) one two) three)
 each_kept (left_join a b l r) k P cs s h =
@@ -155,9 +155,9 @@ again (inner_join a b l r) k cs s =
     let cr = map (moved (λ k. n + k)) low in
     let left : Each (λ c. in_left n c ≡ true) cl = each_kept l k.0 (λ c. in_left n c ≡ true) ls (still_lefts a b l r cs s) (each_passed (in_left n) cs) in
     let right : Each (λ c. in_right n c ≡ true) cr =
-        each_map (λ c. in_right n c ≡ true) (moved (λ k. n + k)) low
-        (each_kept r k.1 (λ c. in_right n (moved (λ k. n + k) c) ≡ true) rs (still_rights a b l r cs s)
-        (each_filter_map (λ c. in_right n (moved (λ k. n + k) c) ≡ true) (moved (λ k. k - n)) (in_right n) cs (each_for cs (λ c e. ap (in_right n) (moved_up n c e) ∙ e)))) in
+    each_map (λ c. in_right n c ≡ true) (moved (λ k. n + k)) low
+    (each_kept r k.1 (λ c. in_right n (moved (λ k. n + k) c) ≡ true) rs (still_rights a b l r cs s)
+    (each_filter_map (λ c. in_right n (moved (λ k. n + k) c) ≡ true) (moved (λ k. k - n)) (in_right n) cs (each_for cs (λ c e. ap (in_right n) (moved_up n c e) ∙ e)))) in
     let both : Each (λ c. in_both n c ≡ true) bs = each_passed (in_both n) cs in
     let lowered : map (moved (λ k. k - n)) (filter (in_right n) ((cl ++ cr) ++ bs)) ≡ low = ap (map (moved (λ k. k - n))) (sorted_right n cl cr bs left right both) ∙ moved_down n low in
     ap (λ l'. settle l' (inner_join a b l r)) (inner_gathered a b l r cs s)
@@ -191,9 +191,11 @@ clean (in_sub cols l r) =
     (h.0, each_append Still (conditions l) (member cols (placed r) ∷ []) h.1 (placed_again (bare r) m.0 (conditions r) m.1, tt))
 clean (inner_join a b l r) =
     let h = clean l in
-    let m = clean r in
-    ((h.0, m.0), each_append Still (conditions l) (map (moved (λ k. width l + k)) (conditions r)) h.1
-        (each_map Still (moved (λ k. width l + k)) (conditions r) (each_implies Still (λ c. Still (moved (λ k. width l + k) c)) (conditions r) (still_moved (λ k. width l + k)) m.1)))
+    let m = clean r in (
+      (h.0, m.0),
+      each_append Still (conditions l) (map (moved (λ k. width l + k)) (conditions r)) h.1
+          (each_map Still (moved (λ k. width l + k)) (conditions r) (each_implies Still (λ c. Still (moved (λ k. width l + k) c)) (conditions r) (still_moved (λ k. width l + k)) m.1)),
+    )
 clean (left_join a b l r) =
     let h = clean l in
     let m = clean r in

@@ -5,7 +5,7 @@ use Rattle.std.proofs.lemmas.List.{append-nil}
 use Rattle.std.proofs.lemmas.List.Elements.{filter-append}
 use Rattle.wt_bag.specs.Bags.{Each}
 use Rattle.wt_bag.proofs.EachLaws.{each_for}
-use Rattle.wt_place.specs.Placing.{Condition, test, member, over, moved, in_left, in_right, in_both}
+use Rattle.wt_place.specs.Placing.{Condition, test, member, moved, in_left, in_right}
 use Rattle.wt_place.proofs.Regularity.{high_all, each_passing}
 
 -- ---- lists

@@ -126,50 +126,48 @@ fn put_join(
     put_head(alloc, out, " = ", b)
 }
 
-#[cycle(plan)]
 fn put_plan(alloc: Global, out: &mut String, plan: &Plan) -> Result<(), AllocError> {
     match plan {
         Plan::Table(number, width) => out.push_str(&format!(in alloc; "t{number}/{width}")?),
         Plan::Proj(cols, operand) => {
             put_head(alloc, out, "Proj<", cols.as_slice())?;
-            put_last(alloc, out, operand)
+            put_plan(alloc, out, operand)?;
+            out.push_str(")")
         }
         Plan::Filter(pred, cols, operand) => {
             out.push_str("Filter<")?;
             put_condition(alloc, out, pred)?;
             put_head(alloc, out, " over ", cols.as_slice())?;
-            put_last(alloc, out, operand)
+            put_plan(alloc, out, operand)?;
+            out.push_str(")")
         }
         Plan::InnerJoin(a, b, left, right) => {
             put_join(alloc, out, "InnerJoin<", a.as_slice(), b.as_slice())?;
-            put_two(alloc, out, left, right)
+            put_plan(alloc, out, left)?;
+            out.push_str(", ")?;
+            put_plan(alloc, out, right)?;
+            out.push_str(")")
         }
         Plan::LeftJoin(a, b, left, right) => {
             put_join(alloc, out, "LeftJoin<", a.as_slice(), b.as_slice())?;
-            put_two(alloc, out, left, right)
+            put_plan(alloc, out, left)?;
+            out.push_str(", ")?;
+            put_plan(alloc, out, right)?;
+            out.push_str(")")
         }
         Plan::InSub(cols, left, right) => {
             put_head(alloc, out, "InSub<", cols.as_slice())?;
-            put_two(alloc, out, left, right)
+            put_plan(alloc, out, left)?;
+            out.push_str(", ")?;
+            put_plan(alloc, out, right)?;
+            out.push_str(")")
         }
         Plan::Dedup(operand) => {
             out.push_str("Dedup(")?;
-            put_last(alloc, out, operand)
+            put_plan(alloc, out, operand)?;
+            out.push_str(")")
         }
     }
-}
-
-#[cycle(plan)]
-fn put_two(alloc: Global, out: &mut String, left: &Plan, right: &Plan) -> Result<(), AllocError> {
-    put_plan(alloc, out, left)?;
-    out.push_str(", ")?;
-    put_last(alloc, out, right)
-}
-
-#[cycle(plan)]
-fn put_last(alloc: Global, out: &mut String, plan: &Plan) -> Result<(), AllocError> {
-    put_plan(alloc, out, plan)?;
-    out.push_str(")")
 }
 
 fn put_names(out: &mut String, names: &[Name]) -> Result<(), AllocError> {

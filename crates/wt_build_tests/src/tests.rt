@@ -4,9 +4,6 @@ ghost use Rattle.wt_ast.specs.Tree.{query_tree};
 ghost use Rattle.wt_ast.specs.Lawful.{IsLawful};
 
 mod faults;
-mod forms;
-mod sizes;
-mod texts;
 
 use std::alloc::{AllocError, Global};
 use wt_ast::Query;
@@ -49,20 +46,10 @@ fn fault(alloc: Global, schema: &Schema, text: &[u8]) -> Option<BuildError> {
     planned(alloc, schema, text).err()
 }
 
-// Adds a piece to a text so many times, with the number of the time, from 1, in the place of each #.
-fn put(alloc: Global, out: &mut Vec<u8>, piece: &str, times: u32) -> Result<(), AllocError> {
-    for n in 1..=times {
-        put_numbered(alloc, out, piece, n)?;
-    }
-    Ok(())
-}
-
-fn put_numbered(alloc: Global, out: &mut Vec<u8>, piece: &str, n: u32) -> Result<(), AllocError> {
-    for (i, part) in piece.split('#').enumerate() {
-        if i > 0 {
-            out.extend_from_slice(format!(in alloc; "{n}")?.as_bytes())?;
-        }
-        out.extend_from_slice(part.as_bytes())?;
+// Adds a piece to a text so many times.
+fn put(out: &mut Vec<u8>, piece: &str, times: u32) -> Result<(), AllocError> {
+    for _i in 0..times {
+        out.extend_from_slice(piece.as_bytes())?;
     }
     Ok(())
 }

@@ -204,10 +204,10 @@ fn stars(
     behind: &str,
 ) -> Result<Vec<u8>, AllocError> {
     let mut text = Vec::new(alloc);
-    put(alloc, &mut text, before, 1)?;
-    put(alloc, &mut text, item, count)?;
+    put(&mut text, before, 1)?;
+    put(&mut text, item, count)?;
     text.pop();
-    put(alloc, &mut text, behind, 1)?;
+    put(&mut text, behind, 1)?;
     Ok(text)
 }
 

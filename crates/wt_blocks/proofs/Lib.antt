@@ -10,5 +10,4 @@ pub mod Planned
 pub mod Faults
 pub mod Root
 pub mod Formed
-pub mod Settled
 pub mod Lawful

@@ -9,7 +9,6 @@ ghost use Rattle.wt_plan.specs.Tree.{PlanTree};
 ghost use Rattle.wt_plan.specs.Measures.{width};
 ghost use Rattle.wt_plan.specs.Regular.{Regular};
 ghost use Rattle.wt_place.specs.Placing.{placed};
-ghost use Rattle.wt_place.specs.Keeping.{IsPlaced};
 ghost use Rattle.wt_query_rows.specs.Scopes.{output_names};
 ghost use Rattle.wt_query_plan.specs.Building.{planned};
 ghost use Rattle.wt_query_plan.specs.Faults.{query_fault};
@@ -33,9 +32,4 @@ pub fn printed_tree_is_formed()
 pub fn plans_of_queries_have_texts()
     ensures parts { (S : List Table) (q : QueryTree) → IsLawful q → PlanParts (placed (planned S q)) }
     ensures names { (S : List Table) → IsSchema S → (q : QueryTree) → IsLawful q → AllByRecursion IsName (output_names S q) }
-{}
-
-/// A law: a plan that is placed once more is the same.
-pub fn placed_plans_stay()
-    ensures { (p : PlanTree) → IsPlaced (placed p) }
 {}

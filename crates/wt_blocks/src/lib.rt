@@ -6,7 +6,4 @@
 
 mod laws;
 
-pub use laws::{
-    placed_plans_stay, plans_of_queries_have_texts, printed_tree_is_built_again,
-    printed_tree_is_formed,
-};
+pub use laws::{plans_of_queries_have_texts, printed_tree_is_built_again, printed_tree_is_formed};

@@ -12,9 +12,11 @@ use Rattle.wt_plan.specs.Measures.{width, node_count}
 use Rattle.wt_plan.specs.Regular.{Regular}
 use Rattle.wt_plan.specs.Rows.{plan_rows}
 use Rattle.wt_place.specs.Placing.{placed}
+use Rattle.wt_place.specs.Keeping.{IsPlaced}
 use Rattle.wt_place.proofs.Measured.{nodes_kept}
 use Rattle.wt_place.proofs.NarrowKept.{width_placed}
 use Rattle.wt_place.proofs.Regularity.{regular_placed}
+use Rattle.wt_placed.proofs.Again.{is_placed}
 use Rattle.wt_regular.proofs.Regulars.{regular_plan}
 use Rattle.wt_query_rows.specs.Rows.{query_rows}
 use Rattle.wt_query_plan.specs.declared.fault.BuildError.{BuildError}
@@ -47,3 +49,7 @@ module _ (S : List Table) (q : QueryTree) where
   pub regular_told : (r : Result Named BuildError) → IsSchema S → Told S q r → IsLawful q → IfOk r (λ named. Regular S (plan_tree named.plan))
   regular_told (Ok named) schema h lawful = subst (Regular S) (sym h.1.0) (regular_placed S (planned S q) (regular_plan S schema q lawful h.0))
   regular_told (Err e) schema h lawful = tt
+
+  pub placed_told : (r : Result Named BuildError) → Told S q r → IfOk r (λ named. IsPlaced (plan_tree named.plan))
+  placed_told (Ok named) h = subst IsPlaced (sym h.1.0) (is_placed (planned S q))
+  placed_told (Err e) h = tt

@@ -8,7 +8,7 @@ ghost use Rattle.wt_plan.specs.Measures.{width, node_count};
 ghost use Rattle.wt_plan.specs.Regular.{Regular};
 ghost use Rattle.wt_plan.specs.Rows.{plan_rows};
 ghost use Rattle.wt_plan.specs.WellFormed.{Narrow};
-ghost use Rattle.wt_place.specs.Keeping.{ConditionsFit};
+ghost use Rattle.wt_place.specs.Keeping.{ConditionsFit, IsPlaced};
 ghost use Rattle.wt_place.specs.Placing.{placed};
 ghost use Rattle.wt_query_rows.specs.Rows.{query_rows};
 ghost use Rattle.wt_query_plan.specs.Faults.{query_fault};
@@ -57,6 +57,8 @@ pub fn plan_of(alloc: Global, schema: &Schema, query: &Query) -> Result<Named, B
     // The plan has the rows of the statement, each as often.
     ensures rows { IfOk result (λ named. (base : List (List Tuple)) → RowsFit schema.now.tables base → IsOneBag (query_rows schema.now.tables base (query_tree query.now)) (plan_rows base (plan_tree named.plan))) }
     ensures names { IfOk result (λ named. length named.names ≡ width (plan_tree named.plan)) }
+    // It is placed: placing it again changes nothing.
+    ensures placed { IfOk result (λ named. IsPlaced (plan_tree named.plan)) }
     // The plan of a lawful query, as each is that was read, is regular for the schema.
     ensures regular { IsLawful (query_tree query.now) → IfOk result (λ named. Regular schema.now.tables (plan_tree named.plan)) }
     ensures nodes { conjuncts_in (query_tree query.now) ≤ 256 → IfOk result (λ named. node_count (plan_tree named.plan) ≤ 1280) }

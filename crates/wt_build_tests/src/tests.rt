@@ -5,12 +5,17 @@ ghost use Rattle.wt_ast.specs.Lawful.{IsLawful};
 
 mod faults;
 
-use std::alloc::Global;
+use std::alloc::{AllocError, Global};
 use wt_ast::Query;
 use wt_build::plan_of;
 use wt_parse::{QueryError, read_queries};
+use wt_plan::Named;
 use wt_query_plan::BuildError;
 use wt_schema::Schema;
+
+// Where cust.name is a text and all else are numbers.
+static SCHEMA: &str =
+    "CREATE TABLE cust (id INTEGER PRIMARY KEY, name TEXT); CREATE TABLE o (id INTEGER PRIMARY KEY, c INTEGER REFERENCES cust (id), d INTEGER NOT NULL REFERENCES cust (id), k INTEGER UNIQUE);";
 
 // The first statement of a text.
 fn first(alloc: Global, text: &[u8]) -> Result<Query, QueryError>
@@ -28,11 +33,23 @@ fn first(alloc: Global, text: &[u8]) -> Result<Query, QueryError>
     }
 }
 
-// The first fault of a statement; None where it has a plan. Want of memory stands for a statement that is not read.
+// The plan of a statement, or its first fault. Want of memory stands for a statement that is not read.
 #[tactic(auto, using(crate::proofs::Small::few_items))]
-fn fault(alloc: Global, schema: &Schema, text: &[u8]) -> Option<BuildError> {
+fn planned(alloc: Global, schema: &Schema, text: &[u8]) -> Result<Named, BuildError> {
     match first(alloc, text) {
-        Err(_) => Some(BuildError::Memory),
-        Ok(query) => plan_of(alloc, schema, &query).err(),
+        Err(_) => Err(BuildError::Memory),
+        Ok(query) => plan_of(alloc, schema, &query),
     }
+}
+
+fn fault(alloc: Global, schema: &Schema, text: &[u8]) -> Option<BuildError> {
+    planned(alloc, schema, text).err()
+}
+
+// Adds a piece to a text so many times.
+fn put(out: &mut Vec<u8>, piece: &str, times: u32) -> Result<(), AllocError> {
+    for _i in 0..times {
+        out.extend_from_slice(piece.as_bytes())?;
+    }
+    Ok(())
 }

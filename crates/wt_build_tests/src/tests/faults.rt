@@ -2,14 +2,12 @@
 //!
 //! The tables: o (id, c, d, k) and cust (id, name), where name is a text and all else are numbers; w has 64 columns.
 
-use crate::tests::fault;
+use crate::tests::{SCHEMA, fault, put};
 use std::alloc::{AllocError, Global};
 use std::test::Fail;
 use wt_ddl::read_schema;
 use wt_query_plan::{BuildError, BuildFault};
-
-static SCHEMA: &str =
-    "CREATE TABLE o (id INT, c INT, d INT, k INT); CREATE TABLE cust (id INT, name TEXT);";
+use wt_schema::Schema;
 
 static FAULTS: [(BuildFault, u32, &str); 34] = [
     (BuildFault::UnknownTable, 17, "SELECT z.id FROM z"),
@@ -197,33 +195,73 @@ fn faults_stand_at_their_offsets(rt: HostRuntime) -> Result<(), Fail> {
 static WIDE: &str =
     "CREATE TABLE w (c0 INT, c1 INT, c2 INT, c3 INT, c4 INT, c5 INT, c6 INT, c7 INT, c8 INT, c9 INT, c10 INT, c11 INT, c12 INT, c13 INT, c14 INT, c15 INT, c16 INT, c17 INT, c18 INT, c19 INT, c20 INT, c21 INT, c22 INT, c23 INT, c24 INT, c25 INT, c26 INT, c27 INT, c28 INT, c29 INT, c30 INT, c31 INT, c32 INT, c33 INT, c34 INT, c35 INT, c36 INT, c37 INT, c38 INT, c39 INT, c40 INT, c41 INT, c42 INT, c43 INT, c44 INT, c45 INT, c46 INT, c47 INT, c48 INT, c49 INT, c50 INT, c51 INT, c52 INT, c53 INT, c54 INT, c55 INT, c56 INT, c57 INT, c58 INT, c59 INT, c60 INT, c61 INT, c62 INT, c63 INT)";
 
-// A text with so many `w.*` between two pieces.
-fn stars(alloc: Global, before: &str, count: u32, behind: &str) -> Result<Vec<u8>, AllocError> {
+// A text with an item so many times and commas between, and the statement around them.
+fn stars(
+    alloc: Global,
+    before: &str,
+    item: &str,
+    count: u32,
+    behind: &str,
+) -> Result<Vec<u8>, AllocError> {
     let mut text = Vec::new(alloc);
-    text.extend_from_slice(before.as_bytes())?;
-    for _i in 1..count {
-        text.extend_from_slice(b"w.*, ")?;
-    }
-    text.extend_from_slice(b"w.* FROM w")?;
-    text.extend_from_slice(behind.as_bytes())?;
+    put(&mut text, before, 1)?;
+    put(&mut text, item, count)?;
+    text.pop();
+    put(&mut text, behind, 1)?;
     Ok(text)
 }
+
+fn fault_of_stars(
+    alloc: Global,
+    schema: &Schema,
+    before: &str,
+    item: &str,
+    count: u32,
+    behind: &str,
+) -> Result<Option<BuildError>, AllocError> {
+    let text = stars(alloc, before, item, count, behind)?;
+    Ok(fault(alloc, schema, &text))
+}
+
+// What stands before the items, the item with its comma, how many there are, what stands behind, and the offset of the first
+// item that is too wide.
+static STARS: [(&str, &str, u32, &str, Option<u32>); 3] = [
+    ("SELECT ", "w.*,", 256, " FROM w", None),
+    ("SELECT ", "w.*,", 257, " FROM w", Some(1031)),
+    (
+        "SELECT d.c0 FROM (SELECT ",
+        "w.*,",
+        257,
+        " FROM w) AS d",
+        Some(1049),
+    ),
+];
+
+static STARS_OF_FOUR: [(&str, &str, u32, &str, Option<u32>); 4] = [
+    ("SELECT ", "*,", 4096, " FROM o", None),
+    ("SELECT ", "*,", 4097, " FROM o", Some(8199)),
+    (
+        "SELECT id FROM o WHERE c IN (SELECT ",
+        "o.*,",
+        4097,
+        " FROM o)",
+        Some(16420),
+    ),
+    ("SELECT id, ", "*,", 4096, " FROM o", Some(8201)),
+];
 
 #[test]
 fn queries_have_so_many_columns_at_most(rt: HostRuntime) -> Result<(), Fail> {
     let alloc = rt.alloc();
-    let schema = read_schema(alloc, WIDE.as_bytes())?;
-    for (before, count, behind, wanted) in [
-        ("SELECT ", 256, "", None),
-        ("SELECT ", 257, "", Some(1287)),
-        ("SELECT d.c0 FROM (SELECT ", 257, ") AS d", Some(1305)),
-    ] {
-        let text = stars(alloc, before, count, behind)?;
-        assert_eq!(rt;
-            fault(alloc, &schema, &text),
-            wanted.map(|at| BuildError::Refused(BuildFault::TooWide, at)),
-            "{count} stars"
-        );
+    for (tables, rows) in [(WIDE, STARS.as_slice()), (SCHEMA, STARS_OF_FOUR.as_slice())] {
+        let schema = read_schema(alloc, tables.as_bytes())?;
+        for (before, item, count, behind, wanted) in rows {
+            assert_eq!(rt;
+                fault_of_stars(alloc, &schema, before, item, *count, behind)?,
+                wanted.map(|at| BuildError::Refused(BuildFault::TooWide, at)),
+                "{before}{item} {count}"
+            );
+        }
     }
     Ok(())
 }

@@ -1,5 +1,5 @@
 use Rattle.wt_ast.specs.Tree.{query_tree}
-use Rattle.wt_build.proofs.Plans.{rows_told, names_told, nodes_told, regular_told}
+use Rattle.wt_build.proofs.Plans.{rows_told, names_told, nodes_told, placed_told, regular_told}
 use Rattle.wt_build.proofs.plan.plan_of.Goals as goal
 
 pub returns-clause-rows : goal.returns-clause-rows
@@ -13,3 +13,6 @@ returns-clause-nodes c small = nodes_told c.args.schema.now.tables (query_tree c
 
 pub returns-clause-regular : goal.returns-clause-regular
 returns-clause-regular c lawful = regular_told c.args.schema.now.tables (query_tree c.args.query.now) c.built_plan.result c.args.schema.now.lawful c.built_plan.ensures lawful
+
+pub returns-clause-placed : goal.returns-clause-placed
+returns-clause-placed c = placed_told c.args.schema.now.tables (query_tree c.args.query.now) c.built_plan.result c.built_plan.ensures

@@ -1,0 +1,9 @@
+//! The query tree of a placed plan with names, which is built to the plan again.
+#![tactic(auto)]
+
+mod counting;
+mod part;
+mod query;
+mod walk;
+
+pub use query::query_of;

@@ -1,0 +1,258 @@
+//! A FROM clause with its items, from its parts.
+ghost use Rattle.std.specs.Prelude.{◌≡◌, ◌++◌, ◌+◌, ◌<◌, ◌^◌, List, [], ◌∷◌, map, Some, IfOk};
+ghost use Rattle.wt_schema.specs.declared.schema.Table.{Table};
+ghost use Rattle.wt_ast.specs.Tree.{query_tree, from_tree, condition_tree, select, table, derived, inner_join, left_join, in_query};
+ghost use Rattle.wt_query_rows.specs.Scopes.{in_scope};
+ghost use Rattle.wt_blocks.specs.Printed as spec;
+ghost use Rattle.wt_tree_parts.specs.Leaves.{scope_of_leaves};
+
+use std::alloc::Global;
+use wt_ast::{ColumnNames, CondKind, Condition, FromPart, Items, Query};
+use wt_schema::Schema;
+use wt_tree_parts::{
+    Leaf, LeafColumns, Sight, alias_of, place_names, push_pairs, table_name, together, where_of,
+};
+use wt_value::{Cols, Name, Names, WantOfMemory};
+
+/// A FROM clause, and its items with their columns.
+#[derive(Drop)]
+pub(crate) struct Part {
+    pub from: FromPart,
+    pub leaves: Vec<Leaf>,
+}
+
+/// The next number of a FROM item.
+pub(crate) fn taken(next: &mut u64) -> u64
+    requires { next.old < 2 ^ 62 }
+    ensures number { result ≡ next.old }
+    ensures next { next.new ≡ next.old + 1 }
+{
+    let number = *next;
+    *next = number + 1;
+    number
+}
+
+fn one_leaf(alloc: Global, leaf: Leaf) -> Result<Vec<Leaf>, WantOfMemory>
+    ensures { IfOk result (λ leaves. leaves.items ≡ leaf ∷ []) }
+{
+    let mut leaves = Vec::new(alloc);
+    leaves.push(leaf)?;
+    Ok(leaves)
+}
+
+/// A table.
+pub(crate) fn table_part(
+    alloc: Global,
+    schema: &Schema,
+    number: u32,
+    item: u64,
+) -> Result<Part, WantOfMemory>
+    ensures from { IfOk result (λ p. from_tree p.from ≡ table (spec.table_name schema.now.tables number) (Some (spec.alias_of item)) 0 0) }
+    ensures columns { IfOk result (λ p. scope_of_leaves schema.now.tables p.leaves.items ≡ map (in_scope (spec.alias_of item)) (spec.table_columns schema.now.tables number)) }
+{
+    let leaf = Leaf {
+        alias: alias_of(alloc, item)?,
+        columns: LeafColumns::Table(number),
+    };
+    let from = FromPart::Table {
+        name: table_name(alloc, schema, number)?,
+        alias: Some(leaf.alias.clone()?),
+        at: 0,
+        alias_at: 0,
+    };
+    let leaves = one_leaf(alloc, leaf)?;
+    Ok(Part { from, leaves })
+}
+
+/// A derived table with a column list.
+pub(crate) fn derived_from(
+    alloc: Global,
+    query: Query,
+    alias: Name,
+    columns: Names,
+) -> Result<FromPart, WantOfMemory>
+    ensures { IfOk result (λ f. from_tree f ≡ derived (query_tree query) alias (Some columns) 0 0) }
+{
+    let query = Box::new(alloc, query)?;
+    Ok(FromPart::Derived {
+        query,
+        alias,
+        columns: Some(columns),
+        at: 0,
+        alias_at: 0,
+    })
+}
+
+/// A query of so many columns as a derived table.
+pub(crate) fn derived_part(
+    alloc: Global,
+    query: Query,
+    width: u32,
+    item: u64,
+) -> Result<Part, WantOfMemory>
+    ensures from { IfOk result (λ p. from_tree p.from ≡ derived (query_tree query) (spec.alias_of item) (Some (spec.place_names width)) 0 0) }
+    ensures columns { (S : List Table) → IfOk result (λ p. scope_of_leaves S p.leaves.items ≡ map (in_scope (spec.alias_of item)) (spec.place_names width)) }
+{
+    let leaf = Leaf {
+        alias: alias_of(alloc, item)?,
+        columns: LeafColumns::Places(width),
+    };
+    let columns = place_names(alloc, width)?;
+    let alias = leaf.alias.clone()?;
+    let from = derived_from(alloc, query, alias, columns)?;
+    let leaves = one_leaf(alloc, leaf)?;
+    Ok(Part { from, leaves })
+}
+
+fn pairs(
+    alloc: Global,
+    schema: &Schema,
+    a: &Cols,
+    b: &Cols,
+    left: &[Leaf],
+    right: &[Leaf],
+) -> Result<Vec<Condition>, WantOfMemory>
+    ensures { IfOk result (λ cs. map condition_tree cs.items ≡ spec.pair_trees (scope_of_leaves schema.now.tables left.now) (scope_of_leaves schema.now.tables right.now) a.now b.now) }
+{
+    let mut on = Vec::new(alloc);
+    let lefts = Sight {
+        schema,
+        leaves: left,
+    };
+    let rights = Sight {
+        schema,
+        leaves: right,
+    };
+    push_pairs(alloc, &lefts, &rights, a.as_slice(), b.as_slice(), &mut on)?;
+    Ok(on)
+}
+
+/// The items of both operands of a join.
+fn both(left: Vec<Leaf>, right: Vec<Leaf>) -> Result<Vec<Leaf>, WantOfMemory>
+    ensures { IfOk result (λ leaves. leaves.items ≡ left.items ++ right.items) }
+{
+    let (mut left, mut right) = (left, right);
+    left.append(&mut right)?;
+    Ok(left)
+}
+
+fn inner_from(
+    alloc: Global,
+    left: FromPart,
+    right: FromPart,
+    on: Condition,
+) -> Result<FromPart, WantOfMemory>
+    ensures { IfOk result (λ f. from_tree f ≡ inner_join (from_tree left) (from_tree right) (condition_tree on) 0) }
+{
+    let left = Box::new(alloc, left)?;
+    let right = Box::new(alloc, right)?;
+    Ok(FromPart::Inner {
+        left,
+        right,
+        on,
+        on_at: 0,
+    })
+}
+
+fn left_from(
+    alloc: Global,
+    left: FromPart,
+    right: FromPart,
+    on: Condition,
+) -> Result<FromPart, WantOfMemory>
+    ensures { IfOk result (λ f. from_tree f ≡ left_join (from_tree left) (from_tree right) (condition_tree on) 0) }
+{
+    let left = Box::new(alloc, left)?;
+    let right = Box::new(alloc, right)?;
+    Ok(FromPart::Left {
+        left,
+        right,
+        on,
+        on_at: 0,
+    })
+}
+
+/// An inner join.
+#[tactic(auto, using(crate::proofs::Scopes::scopes))]
+pub(crate) fn inner_part(
+    alloc: Global,
+    schema: &Schema,
+    a: &Cols,
+    b: &Cols,
+    left: Part,
+    right: Part,
+) -> Result<Part, WantOfMemory>
+    ensures from { IfOk result (λ p. from_tree p.from ≡ inner_join (from_tree left.from) (from_tree right.from) (spec.together (spec.pair_trees (scope_of_leaves schema.now.tables left.leaves.items) (scope_of_leaves schema.now.tables right.leaves.items) a.now b.now)) 0) }
+    ensures columns { IfOk result (λ p. scope_of_leaves schema.now.tables p.leaves.items ≡ scope_of_leaves schema.now.tables left.leaves.items ++ scope_of_leaves schema.now.tables right.leaves.items) }
+{
+    let on = pairs(alloc, schema, a, b, &left.leaves, &right.leaves)?;
+    let on = together(alloc, on)?;
+    let from = inner_from(alloc, left.from, right.from, on)?;
+    let leaves = both(left.leaves, right.leaves)?;
+    Ok(Part { from, leaves })
+}
+
+fn longer(pairs: Vec<Condition>, conditions: Vec<Condition>) -> Result<Vec<Condition>, WantOfMemory>
+    ensures { IfOk result (λ cs. cs.items ≡ pairs.items ++ conditions.items) }
+{
+    let (mut pairs, mut conditions) = (pairs, conditions);
+    pairs.append(&mut conditions)?;
+    Ok(pairs)
+}
+
+/// A LEFT JOIN, in whose ON the conditions of the right operand stand behind the pairs.
+#[tactic(auto, using(crate::proofs::Scopes::scopes))]
+pub(crate) fn left_part(
+    alloc: Global,
+    schema: &Schema,
+    a: &Cols,
+    b: &Cols,
+    left: Part,
+    right: Part,
+    conditions: Vec<Condition>,
+) -> Result<Part, WantOfMemory>
+    ensures from { IfOk result (λ p. from_tree p.from ≡ left_join (from_tree left.from) (from_tree right.from) (spec.together (spec.pair_trees (scope_of_leaves schema.now.tables left.leaves.items) (scope_of_leaves schema.now.tables right.leaves.items) a.now b.now ++ map condition_tree conditions.items)) 0) }
+    ensures columns { IfOk result (λ p. scope_of_leaves schema.now.tables p.leaves.items ≡ scope_of_leaves schema.now.tables left.leaves.items ++ scope_of_leaves schema.now.tables right.leaves.items) }
+{
+    let on = pairs(alloc, schema, a, b, &left.leaves, &right.leaves)?;
+    let on = longer(on, conditions)?;
+    let on = together(alloc, on)?;
+    let from = left_from(alloc, left.from, right.from, on)?;
+    let leaves = both(left.leaves, right.leaves)?;
+    Ok(Part { from, leaves })
+}
+
+/// `columns IN (query)`.
+pub(crate) fn member(
+    alloc: Global,
+    columns: ColumnNames,
+    query: Query,
+) -> Result<Condition, WantOfMemory>
+    ensures { IfOk result (λ c. condition_tree c ≡ in_query 0 columns (query_tree query) 0) }
+{
+    let query = Box::new(alloc, query)?;
+    Ok(Condition {
+        at: 0,
+        kind: CondKind::InQuery(columns, query, 0),
+    })
+}
+
+/// A query of its clauses.
+#[tactic(auto, using(crate::proofs::Scopes::queries))]
+pub(crate) fn finished(
+    alloc: Global,
+    distinct: bool,
+    items: Items,
+    from: FromPart,
+    conditions: Vec<Condition>,
+) -> Result<Query, WantOfMemory>
+    ensures { IfOk result (λ q. query_tree q ≡ select distinct items (from_tree from) (spec.where_of (map condition_tree conditions.items))) }
+{
+    let filter = where_of(alloc, conditions)?;
+    Ok(Query {
+        distinct,
+        items,
+        from,
+        filter,
+    })
+}

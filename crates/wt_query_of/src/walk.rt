@@ -1,0 +1,202 @@
+//! The tree of a block, and the FROM clause and the conditions of a zone, by one walk over the plan.
+ghost use Rattle.std.specs.Prelude.{◌≡◌, ◌++◌, ◌+◌, ◌<◌, ◌^◌, true, false, map, Some, None, IfOk, OnOk};
+ghost use Rattle.wt_ast.specs.Tree.{query_tree, condition_tree};
+ghost use Rattle.wt_ast.specs.Tree as trees;
+ghost use Rattle.wt_plan.specs.Tree.{plan_tree};
+ghost use Rattle.wt_plan.specs.Measures.{cost};
+ghost use Rattle.wt_plan.specs.WellFormed.{Narrow};
+ghost use Rattle.wt_blocks.specs.Blocks.{block, zone_of, plan_block, distinct};
+ghost use Rattle.wt_blocks.specs.Counting.{block_items, from_items, condition_items};
+ghost use Rattle.wt_blocks.specs.Printed as spec;
+ghost use Rattle.wt_tree_parts.specs.Leaves.{scope_of_leaves};
+
+use crate::counting::counted;
+use crate::part::{Part, derived_part, finished, inner_part, left_part, member, table_part, taken};
+use std::alloc::Global;
+use wt_ast::{Condition, Query};
+use wt_plan::Plan;
+use wt_schema::Schema;
+use wt_tree_parts::{Sight, columns_at, plain, star, test};
+use wt_value::{Cols, WantOfMemory};
+
+/// The FROM clause of a zone, whose items are numbered from `next` on; its conditions are added, and the items in their
+/// subqueries numbered from `behind` on.
+#[cycle(walk)]
+fn part(
+    alloc: Global,
+    schema: &Schema,
+    plan: &Plan,
+    next: &mut u64,
+    behind: &mut u64,
+    conditions: &mut Vec<Condition>,
+) -> Result<Part, WantOfMemory>
+    requires narrow { Narrow (plan_tree plan.now) }
+    requires cheap { cost (plan_tree plan.now) < 2 ^ 62 }
+    requires room { next.old + (from_items (zone_of (plan_tree plan.now)) + condition_items (zone_of (plan_tree plan.now))) < 2 ^ 62 }
+    requires behind { behind.old + condition_items (zone_of (plan_tree plan.now)) < 2 ^ 62 }
+    ensures from { IfOk result (λ p. trees.from_tree p.from ≡ spec.from_tree schema.now.tables next.old (zone_of (plan_tree plan.now))) }
+    ensures columns { IfOk result (λ p. scope_of_leaves schema.now.tables p.leaves.items ≡ spec.zone_columns schema.now.tables next.old (zone_of (plan_tree plan.now))) }
+    ensures conditions { OnOk result (map condition_tree conditions.new.items ≡ map condition_tree conditions.old.items ++ spec.condition_trees schema.now.tables next.old behind.old (zone_of (plan_tree plan.now))) }
+    ensures next { OnOk result (next.new ≡ next.old + from_items (zone_of (plan_tree plan.now))) }
+    ensures behind { OnOk result (behind.new ≡ behind.old + condition_items (zone_of (plan_tree plan.now))) }
+{
+    match plan {
+        Plan::Table(number, _) => {
+            let item = taken(next);
+            table_part(alloc, schema, *number, item)
+        }
+        Plan::Proj(cols, inner) => {
+            let item = taken(next);
+            let query = listed(alloc, schema, false, cols, inner, next)?;
+            derived_part(alloc, query, plan.width(), item)
+        }
+        Plan::Dedup(inner) => {
+            let item = taken(next);
+            let query = distinct_block(alloc, schema, inner, next)?;
+            derived_part(alloc, query, plan.width(), item)
+        }
+        Plan::Filter(pred, cols, inner) => {
+            let zone = part(alloc, schema, inner, next, behind, conditions)?;
+            let sight = Sight {
+                schema,
+                leaves: &zone.leaves,
+            };
+            conditions.push(test(alloc, &sight, cols.as_slice(), pred)?)?;
+            Ok(zone)
+        }
+        Plan::InSub(cols, left, right) => {
+            let zone = part(alloc, schema, left, next, behind, conditions)?;
+            let sight = Sight {
+                schema,
+                leaves: &zone.leaves,
+            };
+            let columns = columns_at(alloc, &sight, cols.as_slice())?;
+            let query = whole_block(alloc, schema, right, behind)?;
+            conditions.push(member(alloc, columns, query)?)?;
+            Ok(zone)
+        }
+        Plan::InnerJoin(a, b, left, right) => {
+            let one = part(alloc, schema, left, next, behind, conditions)?;
+            let other = part(alloc, schema, right, next, behind, conditions)?;
+            inner_part(alloc, schema, a, b, one, other)
+        }
+        Plan::LeftJoin(a, b, left, right) => {
+            let one = part(alloc, schema, left, next, behind, conditions)?;
+            let mut on = Vec::new(alloc);
+            let other = zone(alloc, schema, right, next, &mut on)?;
+            left_part(alloc, schema, a, b, one, other, on)
+        }
+    }
+}
+
+/// The FROM clause of a zone whose conditions stand directly behind it; they are added.
+#[cycle(walk)]
+pub(crate) fn zone(
+    alloc: Global,
+    schema: &Schema,
+    plan: &Plan,
+    next: &mut u64,
+    conditions: &mut Vec<Condition>,
+) -> Result<Part, WantOfMemory>
+    requires narrow { Narrow (plan_tree plan.now) }
+    requires cheap { cost (plan_tree plan.now) < 2 ^ 62 }
+    requires room { next.old + (from_items (zone_of (plan_tree plan.now)) + condition_items (zone_of (plan_tree plan.now))) < 2 ^ 62 }
+    ensures from { IfOk result (λ p. trees.from_tree p.from ≡ spec.from_tree schema.now.tables next.old (zone_of (plan_tree plan.now))) }
+    ensures columns { IfOk result (λ p. scope_of_leaves schema.now.tables p.leaves.items ≡ spec.zone_columns schema.now.tables next.old (zone_of (plan_tree plan.now))) }
+    ensures conditions { OnOk result (map condition_tree conditions.new.items ≡ map condition_tree conditions.old.items ++ spec.condition_trees schema.now.tables next.old (next.old + from_items (zone_of (plan_tree plan.now))) (zone_of (plan_tree plan.now))) }
+    ensures next { OnOk result (next.new ≡ next.old + (from_items (zone_of (plan_tree plan.now)) + condition_items (zone_of (plan_tree plan.now)))) }
+{
+    let mut behind = *next + counted(plan).from;
+    let zone = part(alloc, schema, plan, next, &mut behind, conditions)?;
+    *next = behind;
+    Ok(zone)
+}
+
+/// `SELECT [DISTINCT] *` from a zone.
+#[cycle(walk)]
+pub(crate) fn starred(
+    alloc: Global,
+    schema: &Schema,
+    once: bool,
+    plan: &Plan,
+    next: &mut u64,
+) -> Result<Query, WantOfMemory>
+    requires narrow { Narrow (plan_tree plan.now) }
+    requires cheap { cost (plan_tree plan.now) < 2 ^ 62 }
+    requires room { next.old + (from_items (zone_of (plan_tree plan.now)) + condition_items (zone_of (plan_tree plan.now))) < 2 ^ 62 }
+    ensures tree { IfOk result (λ q. query_tree q ≡ spec.block_tree schema.now.tables next.old (block once None (zone_of (plan_tree plan.now)))) }
+    ensures next { OnOk result (next.new ≡ next.old + (from_items (zone_of (plan_tree plan.now)) + condition_items (zone_of (plan_tree plan.now)))) }
+{
+    let mut conditions = Vec::new(alloc);
+    let zone = zone(alloc, schema, plan, next, &mut conditions)?;
+    let items = star(alloc)?;
+    finished(alloc, once, items, zone.from, conditions)
+}
+
+/// `SELECT [DISTINCT]` of columns from a zone.
+#[cycle(walk)]
+fn listed(
+    alloc: Global,
+    schema: &Schema,
+    once: bool,
+    cols: &Cols,
+    plan: &Plan,
+    next: &mut u64,
+) -> Result<Query, WantOfMemory>
+    requires narrow { Narrow (plan_tree plan.now) }
+    requires cheap { cost (plan_tree plan.now) < 2 ^ 62 }
+    requires room { next.old + (from_items (zone_of (plan_tree plan.now)) + condition_items (zone_of (plan_tree plan.now))) < 2 ^ 62 }
+    ensures tree { IfOk result (λ q. query_tree q ≡ spec.block_tree schema.now.tables next.old (block once (Some cols.now) (zone_of (plan_tree plan.now)))) }
+    ensures next { OnOk result (next.new ≡ next.old + (from_items (zone_of (plan_tree plan.now)) + condition_items (zone_of (plan_tree plan.now)))) }
+{
+    let mut conditions = Vec::new(alloc);
+    let zone = zone(alloc, schema, plan, next, &mut conditions)?;
+    let sight = Sight {
+        schema,
+        leaves: &zone.leaves,
+    };
+    let items = plain(alloc, &sight, cols.as_slice())?;
+    finished(alloc, once, items, zone.from, conditions)
+}
+
+/// The distinct rows of a plan.
+#[tactic(auto, using(crate::proofs::Counts::counting))]
+#[cycle(walk)]
+fn distinct_block(
+    alloc: Global,
+    schema: &Schema,
+    plan: &Plan,
+    next: &mut u64,
+) -> Result<Query, WantOfMemory>
+    requires narrow { Narrow (plan_tree plan.now) }
+    requires cheap { cost (plan_tree plan.now) < 2 ^ 62 }
+    requires room { next.old + block_items (distinct (plan_block (plan_tree plan.now))) < 2 ^ 62 }
+    ensures tree { IfOk result (λ q. query_tree q ≡ spec.block_tree schema.now.tables next.old (distinct (plan_block (plan_tree plan.now)))) }
+    ensures next { OnOk result (next.new ≡ next.old + block_items (distinct (plan_block (plan_tree plan.now)))) }
+{
+    match plan {
+        Plan::Proj(cols, inner) => listed(alloc, schema, true, cols, inner, next),
+        _ => starred(alloc, schema, true, plan, next),
+    }
+}
+
+/// The block of a plan.
+#[cycle(walk)]
+fn whole_block(
+    alloc: Global,
+    schema: &Schema,
+    plan: &Plan,
+    next: &mut u64,
+) -> Result<Query, WantOfMemory>
+    requires narrow { Narrow (plan_tree plan.now) }
+    requires cheap { cost (plan_tree plan.now) < 2 ^ 62 }
+    requires room { next.old + block_items (plan_block (plan_tree plan.now)) < 2 ^ 62 }
+    ensures tree { IfOk result (λ q. query_tree q ≡ spec.block_tree schema.now.tables next.old (plan_block (plan_tree plan.now))) }
+    ensures next { OnOk result (next.new ≡ next.old + block_items (plan_block (plan_tree plan.now))) }
+{
+    match plan {
+        Plan::Proj(cols, inner) => listed(alloc, schema, false, cols, inner, next),
+        Plan::Dedup(inner) => distinct_block(alloc, schema, inner, next),
+        _ => starred(alloc, schema, false, plan, next),
+    }
+}

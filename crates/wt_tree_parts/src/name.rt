@@ -1,0 +1,34 @@
+//! The names that a query tree gives: q0, q1, .. for FROM items, c0, c1, .. for the columns of derived tables.
+ghost use Rattle.std.specs.Prelude.{◌≡◌, ◌++◌, codes, map, IfOk};
+ghost use Rattle.std.specs.Fmt.{decimal};
+ghost use Rattle.wt_blocks.specs.Printed as spec;
+
+use std::alloc::Global;
+use wt_value::{Name, Names, WantOfMemory};
+
+pub fn alias_of(alloc: Global, number: u64) -> Result<Name, WantOfMemory>
+    ensures { IfOk result (λ name. name ≡ spec.alias_of number) }
+{
+    let text = format!(in alloc; "q{number}")?;
+    Name::from_bytes(alloc, text.as_bytes())
+}
+
+pub fn place_name(alloc: Global, place: u32) -> Result<Name, WantOfMemory>
+    ensures { IfOk result (λ name. name ≡ spec.place_name place) }
+{
+    let text = format!(in alloc; "c{place}")?;
+    Name::from_bytes(alloc, text.as_bytes())
+}
+
+/// The names of so many columns.
+pub fn place_names(alloc: Global, width: u32) -> Result<Names, WantOfMemory>
+    ensures { IfOk result (λ names. names ≡ spec.place_names width) }
+{
+    let mut names = Names::new(alloc);
+    let mut place: u32 = 0;
+    'places: while place < width {
+        names.push(place_name(alloc, place)?)?;
+        place += 1;
+    }
+    Ok(names)
+}

@@ -28,7 +28,7 @@ use Rattle.wt_known.proofs.Lists.{each_from_all}
 use Rattle.wt_known.proofs.UniqueFacts.{length_row}
 use Rattle.wt_blocks.specs.Printed.{printed}
 use Rattle.wt_blocks.proofs.Root.{printed_fine, printed_plan, printed_names}
-use Rattle.wt_blocks.proofs.Settled.{placed_twice}
+use Rattle.wt_placed.proofs.Again.{is_placed}
 use Rattle.wt_tool.specs.Laws.{IsAccepted, KeepsNames, KeepsRows, PrintsItself}
 use Rattle.wt_tool.specs.Queries.{plan_of, rewritten}
 
@@ -60,7 +60,7 @@ module _ (tables : List Table) (query : QueryTree) (accepted : IsAccepted tables
   no_fault = printed_fine tables accepted.schema (plan_of tables query) regular (output_names tables query) many _
 
   same_plan : plan_of tables (rewritten tables query) ≡ plan_of tables query
-  same_plan = printed_plan tables accepted.schema (plan_of tables query) regular (output_names tables query) many ∙ placed_twice (planned tables query)
+  same_plan = printed_plan tables accepted.schema (plan_of tables query) regular (output_names tables query) many ∙ is_placed (planned tables query)
 
   same_names : output_names tables (rewritten tables query) ≡ output_names tables query
   same_names = printed_names tables accepted.schema (plan_of tables query) regular (output_names tables query) many

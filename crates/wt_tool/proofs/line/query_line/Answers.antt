@@ -3,13 +3,13 @@ use Rattle.std.specs.List.{AllByRecursion}
 use Rattle.wt_ast.specs.Tree.{query_tree}
 use Rattle.wt_ast.specs.Lawful.{IsName}
 use Rattle.wt_blocks.proofs.Lawful.{lawful_names}
-use Rattle.wt_blocks.proofs.Settled.{placed_twice}
+use Rattle.wt_placed.proofs.Again.{is_placed}
 use Rattle.wt_place.specs.Keeping.{IsPlaced}
 use Rattle.wt_query_plan.specs.Building.{planned}
 use Rattle.wt_tool.proofs.line.query_line.Goals as goal
 
 pub plan_line-requires-clause-placed : goal.plan_line-requires-clause-placed
-plan_line-requires-clause-placed c = subst IsPlaced (sym c.in-Ok.ensures.told.1.0) (placed_twice (planned c.args.schema.now.tables (query_tree c.args.query.now)))
+plan_line-requires-clause-placed c = subst IsPlaced (sym c.in-Ok.ensures.told.1.0) (is_placed (planned c.args.schema.now.tables (query_tree c.args.query.now)))
 
 pub plan_line-requires-clause-named : goal.plan_line-requires-clause-named
 plan_line-requires-clause-named c =

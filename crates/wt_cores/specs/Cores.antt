@@ -42,20 +42,19 @@ pub record AreFound (p : PairTree) (k : ℕ) (cores refused : List AtomSet) : Ty
   pub ascending : Ascending cores
   pub unprovable : (s : AtomSet) → Has s refused → Provable p s k → ⊥
 
--- a set of 64 bits of the pair's atoms that leaves out so many of them
-pub record IsAtLevel (p : PairTree) (gone : ℕ) (s : AtomSet) : Type 0 where
-  pub small : s.0 < 2 ^ 64
-  pub within : Within s (all_atoms p)
-  pub lacks : missing 64 (all_atoms p) s ≡ gone
+-- the set without the atom i, if it has it, is not provable
+abbrev pub IsNeeded : PairTree → ℕ → AtomSet → ℕ → Type 0
+IsNeeded p k s i = (t : AtomSet) → LeavesOut s i t → Provable p t k → ⊥
 
--- the sets of a level leave out so many of the pair's atoms each
-abbrev pub AreLevel : PairTree → ℕ → List AtomSet → Type 0
-AreLevel p gone level = (s : AtomSet) → Has s level → IsAtLevel p gone s
+-- each core that has the atoms of the first set, and others of the second alone, is among these
+abbrev pub AllBetween : PairTree → ℕ → AtomSet → AtomSet → List AtomSet → Type 0
+AllBetween p k set free cores = (c : AtomSet) → IsCore p k c → Within set c → ((j : ℕ) → HasAtom c j → HasAtom set j ⊎ HasAtom free j) → Has c cores
 
--- each set of the second list is one of the first without one atom
-abbrev pub ArePartsOf : List AtomSet → List AtomSet → Type 0
-ArePartsOf level next = (s : AtomSet) → Has s next → (t : AtomSet) × (i : ℕ) × Has t level × LeavesOut t i s
+-- the same of the cores that have the atom i beside these
+abbrev pub AllWith : PairTree → ℕ → AtomSet → AtomSet → ℕ → List AtomSet → Type 0
+AllWith p k set free i cores = (c : AtomSet) → IsCore p k c → Within set c → HasAtom c i → ((j : ℕ) → HasAtom c j → HasAtom set j ⊎ HasAtom free j ⊎ (j ≡ i)) → Has c cores
 
--- each core within the set is found, or is within one of these sets
-abbrev pub LeavesNone : PairTree → ℕ → AtomSet → List AtomSet → List AtomSet → Type 0
-LeavesNone p k set cores next = (c : AtomSet) → IsCore p k c → Within c set → Has c cores ⊎ ((s : AtomSet) × Has s next × Within c s)
+-- of the free atoms, those that the unprovable set has and those below a number are given
+pub record Given (free refused : AtomSet) (i : ℕ) (given : AtomSet) : Type 0 where
+  pub within : Within given free
+  pub all : (j : ℕ) → HasAtom free j → (j < i) ⊎ HasAtom refused j → HasAtom given j

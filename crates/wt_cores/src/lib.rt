@@ -3,9 +3,10 @@
 
 mod found;
 mod laws;
-mod level;
 mod ordered;
 mod rules;
+mod search;
+mod sets;
 
 pub use laws::{rules_are_cores, what_is_left_is_a_core};
 pub use ordered::{insert, is_among};

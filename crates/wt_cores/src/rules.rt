@@ -8,30 +8,20 @@ ghost use Rattle.wt_constraint.specs.Sets.{HasAtom};
 ghost use Rattle.wt_constraint.specs.Atoms.{atoms_of_pair};
 ghost use Rattle.wt_form.specs.Relaxed.{AreRules};
 ghost use Rattle.wt_cores.specs.SetLists.{Ascending, Gains};
-ghost use Rattle.wt_cores.specs.Cores.{IsCoreWithin, AreFound, all_atoms, missing};
+ghost use Rattle.wt_cores.specs.Cores.{Within, IsCore, IsCoreWithin, AreFound, all_atoms, missing};
 
 use crate::found::Found;
-use crate::level::next_level;
 use crate::ordered::insert;
+use crate::search::search;
+use crate::sets::{ATOMS, lacks};
 use std::alloc::{AllocError, Global};
-use wt_constraint::{AtomSet, atoms_of, full, has};
+use wt_constraint::{AtomSet, atoms_of, full};
 use wt_form::Prover;
 use wt_symbol::Pair;
 use wt_value::Seq;
 
 /// Sets of a pair's atoms.
 pub type AtomSets = Seq<AtomSet>;
-
-/// The number of atoms that a set may have.
-const ATOMS: u32 = 64;
-
-/// Whether the first set has the atom i and the second has it not.
-fn lacks(all: AtomSet, set: AtomSet, i: u32) -> bool
-    requires { i < 64 }
-    ensures { IsTrue result ↔ (HasAtom all i × (HasAtom set i → ⊥)) }
-{
-    has(all, i) && !has(set, i)
-}
 
 /// How many of the atoms the set leaves out.
 fn left_out(all: AtomSet, set: AtomSet) -> u32
@@ -81,33 +71,27 @@ fn those_within(
     Ok(rules)
 }
 
-/// Cores of a pair, those among them that leave out at most so many of its atoms.
+/// All cores of a pair.
 fn find_cores<P: Prover>(
     prover: &P,
     alloc: Global,
     pair: &Pair,
     all: AtomSet,
-    depth: u32,
     steps: u32,
 ) -> Result<Found, AllocError>
     requires lawful { IsLawful (pair_of pair.now) }
-    requires few { length (atoms_of_pair (pair_of pair.now)) ≤ 64 }
     requires whole { all ≡ all_atoms (pair_of pair.now) }
     ensures found { IfOk result (λ found. AreFound (pair_of pair.now) steps found.cores.items found.refused.items) }
-    ensures all { IfOk result (λ found. (s : AtomSet) → IsCoreWithin (pair_of pair.now) steps depth s → Has s found.cores.items) }
+    ensures all { IfOk result (λ found. (s : AtomSet) → IsCore (pair_of pair.now) steps s → Within s all → Has s found.cores.items) }
 {
     let mut found = Found {
         cores: Vec::new(alloc),
         refused: Vec::new(alloc),
     };
-    let mut level = Vec::new(alloc);
-    level.push(all)?;
-    for gone in 0..u64::from(depth) + 1 {
-        if level.as_slice().is_empty() {
-            return Ok(found);
-        }
-        level = next_level(prover, alloc, pair, steps, &mut found, &level)?;
+    if !prover.prove(alloc, pair, all, steps)? {
+        return Ok(found);
     }
+    search(prover, alloc, pair, steps, all, &mut found, AtomSet(0), all)?;
     Ok(found)
 }
 
@@ -126,7 +110,7 @@ pub fn rules_of_pair<P: Prover>(
 {
     let atoms = atoms_of(alloc, pair)?;
     let all = full(&atoms);
-    let found = find_cores(prover, alloc, pair, all, depth, steps)?;
+    let found = find_cores(prover, alloc, pair, all, steps)?;
     let rules = those_within(alloc, all, depth, &found.cores)?;
     Ok(Seq::from_vec(rules))
 }

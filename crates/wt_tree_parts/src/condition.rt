@@ -63,7 +63,7 @@ fn scalar_of(
 }
 
 /// The condition of a predicate over the places of a list of columns.
-#[cycle(test)]
+#[cycle(pred)]
 pub fn test(
     alloc: Global,
     sight: &Sight,
@@ -95,7 +95,7 @@ pub fn test(
 }
 
 #[tactic(auto, using(crate::proofs::Views::befores))]
-#[cycle(test)]
+#[cycle(pred)]
 fn tests(
     alloc: Global,
     sight: &Sight,

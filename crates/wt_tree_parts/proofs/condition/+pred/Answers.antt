@@ -5,7 +5,7 @@ use Rattle.wt_ast.specs.Tree.{cond_then}
 use Rattle.wt_ast.proofs.Lists.{before, before_last}
 use Rattle.wt_blocks.specs.Printed.{test_tree, test_trees}
 use Rattle.wt_tree_parts.specs.Leaves.{scope_of_leaves}
-use Rattle.wt_tree_parts.proofs.condition.+test.Goals as goal
+use Rattle.wt_tree_parts.proofs.condition.+pred.Goals as goal
 
 pub tests-parts-preserved : goal.tests-parts-preserved
 tests-parts-preserved t c =

@@ -4,7 +4,7 @@ use Rattle.wt_pred.specs.Tree.{preds_tree}
 use Rattle.wt_ast.proofs.Lists.{before}
 use Rattle.wt_blocks.specs.Printed.{test_trees}
 use Rattle.wt_tree_parts.specs.Leaves.{scope_of_leaves}
-use Rattle.wt_tree_parts.proofs.condition.+test.Given as goal
+use Rattle.wt_tree_parts.proofs.condition.+pred.Given as goal
 
 abbrev pub decreases-test : goal.decreases-test
 decreases-test l = goal.size-test l

@@ -1,4 +1,4 @@
-//! The rules of a pair by cores: least provable sets of its atoms, found from the set of all atoms down.
+//! The rules of a pair by cores: least provable sets of its atoms, found from few atoms up.
 #![tactic(auto)]
 
 mod found;

@@ -4,6 +4,7 @@
 
 mod found;
 mod meet;
+mod pieces;
 mod reach;
 mod search;
 

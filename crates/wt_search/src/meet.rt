@@ -8,6 +8,7 @@ ghost use Rattle.wt_facts.specs.Facts.{known_of};
 ghost use Rattle.wt_search.specs.Room.{HasRoom};
 ghost use Rattle.wt_search.specs.Found.{Meets, size_shown};
 
+use crate::pieces::cannot_meet;
 use crate::reach::reached;
 use std::alloc::{AllocError, Global};
 use wt_congruent::congruent_with;
@@ -64,6 +65,9 @@ fn some_meets(
 }
 
 /// Whether chains of at most so many steps from both forms end in congruent forms.
+///
+/// Steps keep how many pieces the terms have, and congruent terms have equally many; so most pairs whose
+/// sides have different heads need no search from the source.
 pub fn proves(
     alloc: Global,
     facts: &Facts,
@@ -75,8 +79,11 @@ pub fn proves(
     requires dest { HasRoom (form_seen dest.now) }
     ensures { IfOk result (λ yes. IsTrue yes ↔ ProvableForms (known_of facts.now) steps (form_seen source.now) (form_seen dest.now)) }
 {
-    let from_source = reached(alloc, facts, source, steps)?;
     let from_dest = reached(alloc, facts, dest, steps)?;
+    if cannot_meet(source, dest, from_dest.as_slice()) {
+        return Ok(false);
+    }
+    let from_source = reached(alloc, facts, source, steps)?;
     let proved = some_meets(alloc, facts, from_source.as_slice(), from_dest.as_slice())?;
     Ok(proved)
 }

@@ -1,6 +1,7 @@
 //! Sides and pairs written as text, for the table of the tests, and the forms that one step gives.
 
 mod proofs;
+mod rules;
 mod steps;
 
 ghost use Rattle.std.specs.Prelude.{◌≤◌, IfOk, IfSome, IsTrue};
@@ -12,6 +13,7 @@ use std::alloc::{AllocError, Global};
 use wt_constraint::{AtomSet, Atoms, atoms_of};
 use wt_facts::Facts;
 use wt_form::Form;
+use wt_search::reached;
 use wt_side_forms::forms_of_sides_have_room;
 use wt_steps::steps;
 use wt_symbol::{Anchors, Pair, Side, pair_fault};
@@ -178,7 +180,39 @@ fn stepped(
     steps(alloc, facts, &form)
 }
 
+/// How many forms chains of at most so many steps reach from the form of a side.
+fn reached_by(
+    alloc: Global,
+    facts: &Facts,
+    side: &Side,
+    anchors: &Anchors,
+    steps: u32,
+) -> Result<usize, AllocError>
+    requires lists { HasAnchors (tree_of side.now) anchors.now }
+    requires size { size_of (tree_of side.now) ≤ 4 }
+{
+    forms_of_sides_have_room();
+    let form = form_of(alloc, side, anchors)?;
+    let forms = reached(alloc, facts, &form, steps)?;
+    Ok(forms.len())
+}
+
 /// The same, if the side's lists have anchors and its operators are few.
+fn reached_from(
+    alloc: Global,
+    facts: &Facts,
+    text: &str,
+    anchors: &Anchors,
+    steps: u32,
+) -> Result<Option<usize>, AllocError> {
+    let side = side(alloc, text)?;
+    if side.size() > 4 || !is_anchored(&side, anchors) {
+        return Ok(None);
+    }
+    Ok(Some(reached_by(alloc, facts, &side, anchors, steps)?))
+}
+
+/// The forms that one step gives from that of a side, if the side's lists have anchors and its operators are few.
 fn steps_from(
     alloc: Global,
     facts: &Facts,

@@ -96,16 +96,27 @@ fn shrinks_to(alloc: Global, case: &Case, left: &str) -> Result<Option<bool>, Al
     }
 }
 
-/// A pair with needed and needless atoms, and the needed ones.
-static SHRUNK: [(Case, &str); 1] = [(
+/// Pairs with needed and needless atoms, and the needed ones. The second has all of its atoms.
+static SHRUNK: [(Case, &str); 2] = [
     (
-        "r0 r1 I12 P0",
-        "r1 P0",
-        "101",
-        "Unique(0); Unique(1); NotNull(1); NotNull(2); RefAttrs(1, 2); RefAttrs(2, 1)",
+        (
+            "r0 r1 I12 P0",
+            "r1 P0",
+            "101",
+            "Unique(0); Unique(1); NotNull(1); NotNull(2); RefAttrs(1, 2); RefAttrs(2, 1)",
+        ),
+        "Unique(1); NotNull(2); RefAttrs(2, 1)",
     ),
-    "Unique(1); NotNull(2); RefAttrs(2, 1)",
-)];
+    (
+        (
+            "r0 r1 L12 P0",
+            "r0 P0",
+            "001",
+            "RelEq(0, 1); AttrsEq(0, 1); AttrsEq(0, 2); AttrsEq(1, 2); Unique(0); Unique(1); Unique(2); NotNull(0); NotNull(1); NotNull(2); RefAttrs(1, 2)",
+        ),
+        "RelEq(0, 1); AttrsEq(0, 2); Unique(0)",
+    ),
+];
 
 #[test]
 fn needless_atoms_go(rt: HostRuntime) -> Result<(), Fail> {

@@ -47,7 +47,7 @@ module _ (S : List Table) (schema : IsSchema S) (rules : List Rule) (lawful : Ar
     pair_lawful : IsLawful (pair_of is.rule.pair)
     pair_lawful = each_get (λ (r : Rule). IsLawful (pair_of r.pair)) rules step.rule is.rule lawful is.at
 
-    cheaper : cost (made (pair_of is.rule.pair) plan step.node m) < cost plan
+    pub cheaper : cost (made (pair_of is.rule.pair) plan step.node m) < cost plan
     cheaper =
         let p = pair_of is.rule.pair in
         let falls = lowers_cost S schema p is.rule.set pair_lawful plan regular step.node is.node m is.matches in

@@ -8,4 +8,3 @@ mod predicate;
 mod widths;
 
 pub use deciding::regular;
-pub use kinds::kind_of;

@@ -1,0 +1,5 @@
+pub mod Widths
+pub mod Kinds
+pub mod Order
+pub mod Predicates
+pub mod Deciding

@@ -1,0 +1,107 @@
+//! How wide a plan is, where each of its nodes may be as wide as it is and names places that are there.
+ghost use Rattle.std.specs.Prelude.{◌≡◌, length};
+ghost use Rattle.wt_plan.specs.Tree.{plan_tree};
+ghost use Rattle.wt_regularity.specs.Widths as spec;
+
+use wt_plan::Plan;
+use wt_schema::Table;
+use wt_value::Cols;
+
+/// The most columns that a plan, a Proj, a Dedup and the right operand of an InSub may have.
+const MOST_COLUMNS: u32 = 16_384;
+
+/// Whether a width is one that may be.
+pub fn is_narrow(width: u32) -> bool
+    ensures { result ≡ spec.is_narrow width }
+{
+    width <= MOST_COLUMNS
+}
+
+fn all_below(width: u32, cols: &[u32]) -> bool
+    ensures { result ≡ spec.all_below width cols.now }
+{
+    cols.iter().all(|column| *column < width)
+}
+
+fn are_places(width: u32, cols: &[u32]) -> bool
+    ensures { result ≡ spec.are_places width cols.now }
+{
+    !cols.is_empty() && all_below(width, cols)
+}
+
+fn table_width(tables: &[Table], number: u32, width: u32) -> Option<u32>
+    ensures { result ≡ spec.table_width tables.now number width }
+{
+    match tables.get(number as usize) {
+        Some(table) if table.columns.len() == width as usize => Some(width),
+        _ => None,
+    }
+}
+
+fn listed_width(width: u32, cols: &Cols) -> Option<u32>
+    ensures { result ≡ spec.listed_width width cols.now }
+{
+    if !are_places(width, cols.as_slice()) || cols.len() > MOST_COLUMNS as usize {
+        return None;
+    }
+    Some(cols.len() as u32)
+}
+
+fn filtered_width(width: u32, cols: &Cols) -> Option<u32>
+    ensures { result ≡ spec.filtered_width width cols.now }
+{
+    if are_places(width, cols.as_slice()) {
+        Some(width)
+    } else {
+        None
+    }
+}
+
+fn joined_width(left: u32, right: u32, a: &Cols, b: &Cols) -> Option<u32>
+    ensures { result ≡ spec.joined_width left right a.now b.now }
+{
+    if are_places(left, a.as_slice()) && are_places(right, b.as_slice()) && a.len() == b.len() {
+        left.checked_add(right)
+    } else {
+        None
+    }
+}
+
+fn matched_width(left: u32, right: u32, cols: &Cols) -> Option<u32>
+    ensures { result ≡ spec.matched_width left right cols.now }
+{
+    if are_places(left, cols.as_slice()) && cols.len() == right as usize && is_narrow(right) {
+        Some(left)
+    } else {
+        None
+    }
+}
+
+fn narrow(width: u32) -> Option<u32>
+    ensures { result ≡ spec.narrow width }
+{
+    if is_narrow(width) { Some(width) } else { None }
+}
+
+/// How many columns the plan's rows have, if each of its nodes may be so wide and names places that are there.
+pub fn fitting_width(tables: &[Table], plan: &Plan) -> Option<u32>
+    ensures { result ≡ spec.fitting_width tables.now (plan_tree plan.now) }
+{
+    match plan {
+        Plan::Table(number, width) => table_width(tables, *number, *width),
+        Plan::Proj(cols, plan) => listed_width(fitting_width(tables, plan)?, cols),
+        Plan::Filter(_, cols, plan) => filtered_width(fitting_width(tables, plan)?, cols),
+        Plan::InnerJoin(a, b, left, right) | Plan::LeftJoin(a, b, left, right) => joined_width(
+            fitting_width(tables, left)?,
+            fitting_width(tables, right)?,
+            a,
+            b,
+        ),
+        Plan::InSub(cols, left, right) => matched_width(
+            fitting_width(tables, left)?,
+            fitting_width(tables, right)?,
+            cols,
+        ),
+        Plan::Dedup(plan) => narrow(fitting_width(tables, plan)?),
+    }
+}

@@ -1,5 +1,5 @@
 -- Numbers that are read one after the other, and a leaf's columns made one after the other.
-use Rattle.std.proofs.Common.{◌≡◌, ℕ, zero, suc, ◌+◌, ◌-◌, ◌^◌, ◌<◌, min, List, [], ◌∷◌, ◌++◌, map, append_assoc, refl, sym, ap, ◌∙◌, arith}
+use Rattle.std.proofs.Common.{◌≡◌, ℕ, suc, ◌+◌, ◌-◌, ◌^◌, ◌<◌, min, List, [], ◌∷◌, ◌++◌, append_assoc, refl, sym, ap, ◌∙◌, arith}
 use Rattle.wt_instance.specs.declared.named.Column.{Column}
 use Rattle.wt_instance.specs.Rows.{column, leaf_columns}
 use Rattle.wt_pred.specs.Tree.{PredTree}

@@ -15,7 +15,7 @@ use Rattle.wt_plan.specs.Measures.{width}
 use Rattle.wt_matching.specs.Filling.{Assigned, leaf_plan, pred_of, header, place, places, fill}
 use Rattle.wt_matching.proofs.Assigning.{Covers}
 use Rattle.wt_matching.specs.Filling.{list_of}
-use Rattle.wt_matching.proofs.Finding.{Maybe, nothing, just, and_then, number_at, numbers_at, Found, found_join, found, Reads, IsPlaced, ArePlaced}
+use Rattle.wt_matching.specs.Finding.{Maybe, nothing, just, and_then, number_at, numbers_at, Found, found_join, found, Reads, IsPlaced, ArePlaced}
 use Rattle.wt_matching.proofs.Lists.{index_map, map_append}
 use Rattle.wt_known.proofs.Agreeing.{and_parts, eq_true}
 

@@ -15,7 +15,7 @@ use Rattle.wt_plan.specs.Measures.{width}
 use Rattle.wt_matching.specs.Filling.{Assigned, leaf_plan, pred_of, header, place, places, fill}
 use Rattle.wt_matching.proofs.Assigning.{Covers}
 use Rattle.wt_matching.specs.Filling.{list_of}
-use Rattle.wt_matching.proofs.Finding.{nothing, just, number_at, numbers_at, Found, found, Reads, IsPlaced, ArePlaced}
+use Rattle.wt_matching.specs.Finding.{nothing, just, number_at, numbers_at, Found, found, Reads, IsPlaced, ArePlaced}
 use Rattle.wt_plan.proofs.Upto.{length_map}
 use Rattle.wt_matching.proofs.Lists.{map_append, length_append}
 use Rattle.wt_matching.proofs.FindLaws.{just_same, then_just, number_read, numbers_read, width_found}

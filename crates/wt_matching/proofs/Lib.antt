@@ -3,7 +3,6 @@ pub mod Assigning
 pub mod Congruence
 pub mod FillLaws
 pub mod Applying
-pub mod Finding
 pub mod FindLaws
 pub mod FoundLaws
 pub mod MatchLaws

@@ -13,7 +13,7 @@ use Rattle.wt_matching.proofs.Assigning.{Covers}
 use Rattle.wt_plan.specs.Measures.{node_count}
 use Rattle.wt_matching.specs.Nodes.{at, put}
 use Rattle.wt_matching.specs.Filling.{list_of}
-use Rattle.wt_matching.proofs.Finding.{Found, found, ArePlaced}
+use Rattle.wt_matching.specs.Finding.{Found, found, ArePlaced}
 use Rattle.wt_matching.proofs.FindLaws.{just_same, finds}
 
 -- two assignments under which the side is one plan give its symbols the same

@@ -31,7 +31,7 @@ use Rattle.wt_plan.proofs.Upto.{length_map}
 use Rattle.wt_known.specs.Fitting.{Fits}
 use Rattle.wt_known.proofs.Agreeing.{and_parts, eq_true, lt_true}
 use Rattle.wt_matching.specs.Filling.{Assigned, leaf_plan, list_of, shape, header, place, places, fill}
-use Rattle.wt_matching.proofs.Finding.{IsPlaced, ArePlaced}
+use Rattle.wt_matching.specs.Finding.{IsPlaced, ArePlaced}
 use Rattle.wt_matching.specs.Matching.{HasEach}
 use Rattle.wt_matching.proofs.Assigning.{Covers, AtomCovered}
 use Rattle.wt_matching.proofs.FillLaws.{fill_width}

@@ -20,7 +20,7 @@ use Rattle.wt_instance.specs.Meeting.{comes_from}
 use Rattle.wt_plan.specs.Measures.{width}
 use Rattle.wt_matching.specs.Filling.{Assigned, shape, header, place}
 use Rattle.wt_matching.specs.Filling.{list_of}
-use Rattle.wt_matching.proofs.Finding.{ArePlaced}
+use Rattle.wt_matching.specs.Finding.{ArePlaced}
 use Rattle.wt_known.proofs.Lists.{has_index}
 use Rattle.wt_known.proofs.Agreeing.{and_parts, lt_true, eq_true}
 use Rattle.wt_matching.proofs.FindLaws.{placed_column, number_itself}
@@ -51,7 +51,7 @@ IsLaid (sides.dedup s) A = IsLaid s A
 both_true : (b c : Bool) → b ≡ true → c ≡ true → (b && c) ≡ true
 both_true b c e f = cc
 
-from_has : (cs : List Column) (r n : ℕ) → Has (column r n) cs → place cs r n < length cs
+pub from_has : (cs : List Column) (r n : ℕ) → Has (column r n) cs → place cs r n < length cs
 from_has [] r n h = absurd h
 from_has (c ∷ cs) r n h = here ((c.leaf == r) && (c.number == n)) refl h (from_has cs r n)
   where
@@ -63,7 +63,7 @@ from_has (c ∷ cs) r n h = here ((c.leaf == r) && (c.number == n)) refl h (from
     here false e (inl same) ih = absurd (false≢true (sym e ∙ passes c same))
     here false e (inr k) ih = let lt = ih k in omega (arith, lt)
 
-to_has : (cs : List Column) (r n : ℕ) → place cs r n < length cs → Has (column r n) cs
+pub to_has : (cs : List Column) (r n : ℕ) → place cs r n < length cs → Has (column r n) cs
 to_has cs r n h = subst (λ c. Has c cs) (placed_column cs r n (column r n) h) (has_index cs (place cs r n) (column r n) h)
 
 leaf_seen : (x k w : ℕ) (c : Column) → Has c (leaf_columns x k w) → c.leaf ≡ x

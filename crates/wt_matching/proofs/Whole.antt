@@ -26,7 +26,7 @@ use Rattle.wt_matching.specs.Filling.{list_of}
 use Rattle.wt_matching.specs.Matching.{IsMatch}
 use Rattle.wt_matching.specs.Matching.{IsSound}
 use Rattle.wt_matching.proofs.Assigning.{AtomCovered}
-use Rattle.wt_matching.proofs.Finding.{ArePlaced}
+use Rattle.wt_matching.specs.Finding.{ArePlaced}
 use Rattle.wt_plan.proofs.Upto.{length_map}
 use Rattle.wt_matching.proofs.Lists.{index_map}
 use Rattle.wt_matching.proofs.FillLaws.{fill_width}

@@ -24,7 +24,7 @@ use Rattle.wt_plan.specs.Measures.{width}
 use Rattle.wt_matching.specs.Filling.{Assigned, leaf_plan, pred_of, header, place}
 use Rattle.wt_matching.proofs.Assigning.{Covers}
 use Rattle.wt_matching.specs.Filling.{list_of}
-use Rattle.wt_matching.proofs.Finding.{IsPlaced, ArePlaced}
+use Rattle.wt_matching.specs.Finding.{IsPlaced, ArePlaced}
 use Rattle.wt_known.proofs.Lists.{has_index}
 use Rattle.wt_matching.proofs.Lists.{index_map}
 

@@ -1,3 +1,4 @@
 pub mod Filling
 pub mod Nodes
 pub mod Matching
+pub mod Finding

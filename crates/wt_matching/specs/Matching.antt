@@ -3,6 +3,7 @@ use Rattle.std.specs.Prelude.{◌≡◌, ℕ, true, List, length, slice_get, Som
 use Rattle.std.specs.List.{list_all}
 use Rattle.wt_schema.specs.declared.schema.Table.{Table}
 use Rattle.wt_symbol.specs.Sides.{PairTree, leaves_of, lists_of, preds_of}
+use Rattle.wt_symbol.specs.Lawful.{IsLawful}
 use Rattle.wt_symbol.specs.Heads.{anchor}
 use Rattle.wt_constraint.specs.declared.atom.Atom.{Atom}
 use Rattle.wt_constraint.specs.declared.atom.Atom.TheVariants.{RelEq, AttrsEq, PredEq, Unique, NotNull, RefAttrs}
@@ -50,3 +51,8 @@ pub record IsMatch (S : List Table) (p : PairTree) (set : AtomSet) (plan : PlanT
   pub dest_lists : lists_come p.dest p.anchors (shape m) ≡ true
   pub regular : Regular S (put plan n (fill p.dest p.anchors m))
   pub wide : width (put plan n (fill p.dest p.anchors m)) ≡ width plan
+
+-- A rule that may be applied: its pair is lawful, so its destination weighs less, and its two sides are one bag wherever its set is met.
+pub record IsGood (p : PairTree) (set : AtomSet) : Type 0 where
+  pub lawful : IsLawful p
+  pub sound : IsSound p set

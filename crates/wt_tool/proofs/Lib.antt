@@ -1,9 +1,6 @@
-pub mod Putting
 pub mod Files
 pub mod LinesOf
 pub mod StatementLines
-pub mod RuleLines
 pub mod Statuses
 pub mod QueryLaws
-pub mod Alone
 pub mod RuleBags

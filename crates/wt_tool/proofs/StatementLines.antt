@@ -11,8 +11,8 @@ use Rattle.wt_grammar.specs.Statements.{Statement, answer}
 use Rattle.wt_schema.specs.declared.schema.Table.{Table}
 use Rattle.wt_tool.specs.declared.line.Line.{Line}
 use Rattle.wt_io.proofs.Written.{append_known-twice}
-use Rattle.wt_tool.specs.declared.stop.Stop.{Stop}
-use Rattle.wt_tool.specs.Outcomes.{AppendsPrefix, Stops}
+use Rattle.wt_outcome.specs.declared.stop.Stop.{Stop}
+use Rattle.wt_outcome.specs.Outcomes.{AppendsPrefix, Stops}
 use Rattle.wt_tool.specs.Rewriting.{answer_line, line_told, lines_text, printed_line, statement_line, tree_line}
 use Rattle.wt_plan.specs.Tree.{PlanTree}
 use Rattle.wt_place.specs.Placing.{placed}
@@ -21,7 +21,7 @@ use Rattle.wt_query_plan.specs.Building.{planned}
 use Rattle.wt_query_plan.specs.Faults.{query_fault}
 use Rattle.wt_blocks.specs.Printed.{printed}
 use Rattle.wt_tool.proofs.LinesOf.{text-take, text_split}
-use Rattle.wt_tool.proofs.Putting.{prefix_after, prefix_none, stops_after}
+use Rattle.wt_outcome.proofs.Putting.{prefix_after, prefix_none, stops_after}
 
 -- what holds of a value holds of what follows from it
 pub if_ok : {T E : Type 0} (r : Result T E) (P Q : T → Type 0) → ((x : T) → P x → Q x) → IfOk r P → IfOk r Q

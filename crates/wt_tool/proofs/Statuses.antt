@@ -3,18 +3,18 @@ use Rattle.std.proofs.Common.{◌≡◌, ◌≢◌, ◌∙◌, ℕ, ◌≤◌, L
 use Rattle.std.proofs.lemmas.Result.{IfOk-from_err}
 use Rattle.std.specs.Prelude.{Ok, Err, Some, None, IsErr, MatchResult, Result}
 use Rattle.std.specs.declared.option.Option.{Option}
-use Rattle.wt_tool.specs.declared.input.Input.{Input}
+use Rattle.wt_outcome.specs.declared.input.Input.{Input}
 use Rattle.wt_tool.specs.declared.words.UsageRefusal.{UsageRefusal}
 use Rattle.wt_tool.specs.Answers.{Answers, CommandOutcome, RunOutcome, WithInputs, usage}
 use Rattle.wt_pair.specs.declared.bounds.Bounds.{Bounds}
-use Rattle.wt_tool.specs.Discovering.{IsDiscovered}
-use Rattle.wt_tool.specs.Outcomes.{AppendsPrefix, Ends, Outcome, Writes}
+use Rattle.wt_discovery.specs.Discovering.{IsDiscovered}
+use Rattle.wt_outcome.specs.Outcomes.{AppendsPrefix, Ends, Outcome, Writes}
 use Rattle.wt_ddl.specs.Schemas.{schema_of}
 use Rattle.wt_ddl.specs.Refusals as ddl
 use Rattle.wt_grammar.specs.Statements.{File, file_of}
 use Rattle.wt_lex.specs.declared.token.LexFault.{LexFault}
 use Rattle.wt_schema.specs.declared.schema.Table.{Table}
-use Rattle.wt_tool.specs.declared.input.Input.TheVariants.{Whole, TooLong}
+use Rattle.wt_outcome.specs.declared.input.Input.TheVariants.{Whole, TooLong}
 use Rattle.wt_tool.specs.Rewriting.{any_refused, file_lines, is_empty_rules, not_built, rewriting, status_of, with_file, with_queries, with_rules, with_schema}
 use Rattle.wt_tool.specs.Words.{Command, Names, Rewrite, Discover, command_of}
 

@@ -1,13 +1,13 @@
 -- What the top call answers.
 use Rattle.std.specs.Prelude.{ℕ, List, [], ◌∷◌, ◌++◌, codes, Some, MatchResult}
 use Rattle.std.specs.declared.option.Option.{Option}
-use Rattle.wt_tool.specs.declared.input.Input.{Input}
+use Rattle.wt_outcome.specs.declared.input.Input.{Input}
 use Rattle.wt_words.specs.declared.fault.UsageFault.TheVariants as faults
 use Rattle.wt_tool.specs.declared.words.UsageRefusal.{UsageRefusal}
 use Rattle.wt_tool.specs.declared.words.UsageRefusal.TheVariants.{Fault, NotBuilt}
-use Rattle.wt_tool.specs.Discovering.{IsDiscovered}
-use Rattle.wt_tool.specs.Inputs.{IsInput}
-use Rattle.wt_tool.specs.Outcomes.{Outcome, Ends}
+use Rattle.wt_discovery.specs.Discovering.{IsDiscovered}
+use Rattle.wt_outcome.specs.Inputs.{IsInput}
+use Rattle.wt_outcome.specs.Outcomes.{Outcome, Ends}
 use Rattle.wt_tool.specs.Rewriting.{rewriting}
 use Rattle.wt_tool.specs.Words.{Names, Command, Rewrite, Discover, command_of}
 

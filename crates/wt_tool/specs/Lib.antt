@@ -1,10 +1,6 @@
-pub mod Causes
-pub mod Inputs
-pub mod Outcomes
 pub mod Words
 pub mod FaultNames
 pub mod Queries
 pub mod Rewriting
 pub mod Laws
-pub mod Discovering
 pub mod Answers

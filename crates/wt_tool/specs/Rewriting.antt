@@ -13,12 +13,12 @@ use Rattle.wt_grammar.specs.Statements.{File, Statement, Answer, answer, file_of
 use Rattle.wt_lex.specs.declared.token.LexFault.{LexFault}
 use Rattle.wt_query_plan.specs.Faults.{Fault, query_fault}
 use Rattle.wt_schema.specs.declared.schema.Table.{Table}
-use Rattle.wt_tool.specs.declared.input.Input.{Input}
-use Rattle.wt_tool.specs.declared.input.Input.TheVariants.{Whole, TooLong}
+use Rattle.wt_outcome.specs.declared.input.Input.{Input}
+use Rattle.wt_outcome.specs.declared.input.Input.TheVariants.{Whole, TooLong}
 use Rattle.wt_tool.specs.declared.line.Line.{Line}
 use Rattle.wt_tool.specs.FaultNames.{build_name, lexical_name, schema_name, query_name}
-use Rattle.wt_tool.specs.declared.stop.Stop.{Stop}
-use Rattle.wt_tool.specs.Outcomes.{Outcome, Stops}
+use Rattle.wt_outcome.specs.declared.stop.Stop.{Stop}
+use Rattle.wt_outcome.specs.Outcomes.{Outcome, Stops}
 use Rattle.wt_spelling.specs.Spelling.{statement_text}
 use Rattle.wt_tool.specs.Queries.{rewritten}
 use Rattle.wt_tool.specs.Words.{Names}

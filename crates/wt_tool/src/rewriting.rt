@@ -4,33 +4,29 @@ ghost use Rattle.wt_ddl.specs.Schemas.{schema_of};
 ghost use Rattle.wt_grammar.specs.Statements.{Statement, file_of};
 ghost use Rattle.wt_io.specs.Causes.{Rose};
 ghost use Rattle.wt_tool.specs.Answers.{AreInputs, WithInputs};
-ghost use Rattle.wt_tool.specs.Outcomes.{AppendsPrefix, Ends, Runs, StopsReading, Writes};
+ghost use Rattle.wt_outcome.specs.Outcomes.{AppendsPrefix, Ends, Runs, StopsReading, Writes};
 ghost use Rattle.wt_tool.specs.Rewriting as spec;
 ghost use Rattle.wt_tool.specs.Words.{named, names_of};
 
 use crate::fault_names::{lexical_name, query_name, schema_name};
-use crate::input::{Input, read_input};
 use crate::line::{Line, query_line, refusal_line};
-use crate::put::put;
-use crate::stop::Stop;
 use crate::words::Names;
 use std::alloc::{AllocError, Global};
 use wt_ddl::{DdlError, read_schema};
 use wt_io::{Sink, Store};
 use wt_lex::LexError;
+use wt_outcome::{Input, Stop, put, read_input};
 use wt_parse::{Queries, QueryError, read_queries};
 use wt_schema::Schema;
 
 const EMPTY_RULES: &[u8] = b"wetune-rules 1 steps=8\nend 0\n";
 
-impl Input {
-    fn is_empty_rules(&self) -> bool
-        ensures { result ≡ spec.is_empty_rules self.now }
-    {
-        match self {
-            Input::Whole(bytes) => bytes.as_slice() == EMPTY_RULES,
-            Input::TooLong => false,
-        }
+fn is_empty_rules(rules: &Input) -> bool
+    ensures { result ≡ spec.is_empty_rules rules.now }
+{
+    match rules {
+        Input::Whole(bytes) => bytes.as_slice() == EMPTY_RULES,
+        Input::TooLong => false,
     }
 }
 
@@ -210,7 +206,7 @@ fn answer<K: Sink>(
 ) -> Result<u8, Stop>
     ensures { Runs ⊥ (Rose (K.faults sink.old) (K.faults sink.new)) (K.written sink.old) (K.written sink.new) (spec.rewriting (names_of names.now) files.now.rules files.now.schema files.now.queries) result }
 {
-    if files.rules.is_empty_rules() {
+    if is_empty_rules(&files.rules) {
         put_schema(alloc, names, &files.schema, &files.queries, sink)
     } else {
         put_not_built(alloc, names.rules, sink)

@@ -3,17 +3,17 @@ ghost use Rattle.std.specs.Prelude.{◌≡◌, ◌≢◌, ◌≤◌, ◌⊎◌, 
 ghost use Rattle.wt_io.specs.Causes.{Rose};
 ghost use Rattle.wt_tool.specs.Answers.{Answers, RunOutcome, usage};
 ghost use Rattle.wt_tool.specs.Laws.{KeepsNames, KeepsRows, PrintsItself, RulesHaveOneBag};
-ghost use Rattle.wt_tool.specs.Outcomes.{AppendsPrefix, Ends, Writes};
+ghost use Rattle.wt_outcome.specs.Outcomes.{AppendsPrefix, Ends, Writes};
 ghost use Rattle.wt_tool.specs.Words.{command_of};
 
-use crate::discovering::discover_alone;
-use crate::put::put;
 use crate::rewriting::rewrite_files;
 use crate::words::{Command, UsageRefusal, read_words};
 use std::alloc::Global;
 use std::sync::Wait;
 use std::thread::Threads;
+use wt_discovery::discover_alone;
 use wt_io::{Gate, Sink, Store};
+use wt_outcome::put;
 use wt_search::Search;
 use wt_words::UsageFault;
 

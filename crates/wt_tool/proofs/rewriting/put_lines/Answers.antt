@@ -2,7 +2,7 @@ use Rattle.std.proofs.Common.{◌∙◌, ◌<◌, ◌||◌, ap, sym, length, ari
 use Rattle.std.proofs.lemmas.Result.{err_from_is_err_and}
 use Rattle.wt_tool.specs.Rewriting.{statement_line}
 use Rattle.wt_tool.proofs.LinesOf.{refused-take}
-use Rattle.wt_tool.proofs.Putting.{rose_since}
+use Rattle.wt_outcome.proofs.Putting.{rose_since}
 use Rattle.wt_tool.proofs.StatementLines.{line_put, line_stops, lines_so_far, some_at}
 use Rattle.wt_tool.proofs.rewriting.put_lines.Goals as goal
 

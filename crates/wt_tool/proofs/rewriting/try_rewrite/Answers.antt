@@ -1,5 +1,6 @@
 use Rattle.std.proofs.lemmas.Result.{err_from_is_err_and}
-use Rattle.wt_tool.proofs.Files.{any_inputs, stops_reading}
+use Rattle.wt_outcome.proofs.Inputs.{stops_reading}
+use Rattle.wt_tool.proofs.Files.{any_inputs}
 use Rattle.wt_tool.specs.Words.{names_of}
 use Rattle.wt_tool.proofs.rewriting.try_rewrite.Goals as goal
 

@@ -2,10 +2,10 @@ use Rattle.std.proofs.Common.{◌≡◌, ◌∙◌, ◌≤◌, ap, refl, rules, 
 use Rattle.std.specs.Io.KnownBytes.{append_known}
 use Rattle.std.proofs.lemmas.Result.{err_from_is_err_and}
 use Rattle.wt_rule.specs.Texts.{head_line, end_line}
-use Rattle.wt_tool.specs.declared.stop.Stop.TheVariants.{Memory}
-use Rattle.wt_tool.proofs.Putting.{prefix_none, rose_since}
-use Rattle.wt_tool.proofs.RuleLines.{ends_whole, stops_after_rules, stops_before, stops_between}
-use Rattle.wt_tool.proofs.discovering.try_discover.Goals as goal
+use Rattle.wt_outcome.specs.declared.stop.Stop.TheVariants.{Memory}
+use Rattle.wt_outcome.proofs.Putting.{prefix_none, rose_since}
+use Rattle.wt_discovery.proofs.RuleLines.{ends_whole, stops_after_rules, stops_before, stops_between}
+use Rattle.wt_discovery.proofs.discovering.try_discover.Goals as goal
 
 pub returns-in_err-head : goal.returns-in_err-head
 returns-in_err-head g c =

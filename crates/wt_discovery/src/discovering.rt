@@ -1,18 +1,41 @@
 //! `discover`, on the caller's thread.
-ghost use Rattle.std.specs.Prelude.{◌≡◌, ◌≢◌, ◌≤◌, ◌⊎◌, ℕ, List};
+ghost use Rattle.std.specs.Prelude.{◌≡◌, ◌≢◌, ◌≤◌, ◌⊎◌, All, map, ℕ, List};
 ghost use Rattle.wt_io.specs.Causes.{Rose};
-ghost use Rattle.wt_pair.specs.Candidates.{IsWithinLimits};
-ghost use Rattle.wt_tool.specs.Discovering as spec;
-ghost use Rattle.wt_tool.specs.Outcomes.{AppendsPrefix, Ends, Outcome};
+ghost use Rattle.wt_pair.specs.Candidates.{IsWithinLimits, pairs_of};
+ghost use Rattle.wt_symbol.specs.Lawful.{IsLawful};
+ghost use Rattle.wt_symbol.specs.Sides.{pair_of};
+ghost use Rattle.wt_discovery.specs.Discovering as spec;
+ghost use Rattle.wt_outcome.specs.Outcomes.{AppendsPrefix, Ends, Outcome};
 
-use crate::put::put;
-use crate::stop::Stop;
 use std::alloc::Global;
-use wt_discover::lines_of_pairs;
+use wt_discover::rule_lines;
 use wt_form::Prover;
 use wt_io::Sink;
+use wt_outcome::{Stop, put};
 use wt_pair::{Bounds, Pairs};
 use wt_rule::{write_end, write_head};
+use wt_symbol::Pair;
+
+// Puts the lines of the rules of some pairs, those of each pair as soon as they are known; answers their number.
+fn put_pairs<P: Prover, K: Sink>(
+    prover: &P,
+    alloc: Global,
+    bounds: &Bounds,
+    pairs: &[Pair],
+    sink: &mut K,
+) -> Result<u64, Stop>
+    requires lawful { All (λ p. IsLawful (pair_of p)) pairs.now }
+    ensures puts { spec.PutsRulesOf bounds.now (map pair_of pairs.now) (Rose (K.faults sink.old) (K.faults sink.new)) (K.written sink.old) (K.written sink.new) result }
+    ensures later { K.faults sink.old ≤ K.faults sink.new }
+{
+    let mut count = 0u64;
+    'pairs: for pair in pairs {
+        let lines = rule_lines(prover, alloc, pair, bounds.depth, bounds.steps)?;
+        put(sink, lines.text.as_slice())?;
+        count = count.saturating_add(lines.count);
+    }
+    Ok(count)
+}
 
 // Puts the lines of the rules of all pairs, lot by lot; answers their number.
 fn put_lots<P: Prover, K: Sink>(
@@ -22,21 +45,14 @@ fn put_lots<P: Prover, K: Sink>(
     sink: &mut K,
 ) -> Result<u64, Stop>
     requires limits { IsWithinLimits bounds.now }
-    ensures puts { spec.PutsRules bounds.now (Rose (K.faults sink.old) (K.faults sink.new)) (K.written sink.old) (K.written sink.new) result }
+    ensures puts { spec.PutsRulesOf bounds.now (pairs_of bounds.now) (Rose (K.faults sink.old) (K.faults sink.new)) (K.written sink.old) (K.written sink.new) result }
     ensures later { K.faults sink.old ≤ K.faults sink.new }
 {
     let mut count = 0u64;
     let mut pairs = Pairs::new(*bounds);
     'lots: while let Some(lot) = pairs.next_lot(alloc)? {
-        let lines = lines_of_pairs(
-            prover,
-            alloc,
-            lot.pairs.as_slice(),
-            bounds.depth,
-            bounds.steps,
-        )?;
-        put(sink, lines.text.as_slice())?;
-        count = count.saturating_add(lines.count);
+        let found = put_pairs(prover, alloc, bounds, lot.pairs.as_slice(), sink)?;
+        count = count.saturating_add(found);
     }
     Ok(count)
 }

@@ -1,11 +1,12 @@
 -- The lines of the rules of pairs, one lot after another.
-use Rattle.std.proofs.Common.{◌≡◌, ◌∙◌, ℕ, zero, suc, ◌+◌, ◌-◌, ◌<◌, ◌≤◌, ◌^◌, min, List, [], ◌++◌, length, take, drop, map, refl, ap, sym, subst, arith, append_assoc, append-nil, length-drop, length-take, inl, inr}
-use Rattle.std.specs.Prelude.{◌↔◌, All, IsNone, is_some, Some, None, Ok, Err}
+use Rattle.std.proofs.Common.{◌≡◌, ◌∙◌, ℕ, zero, suc, ◌+◌, ◌-◌, ◌<◌, ◌≤◌, ◌^◌, min, List, [], ◌∷◌, ◌++◌, get_or, length, take, drop, map, refl, ap, sym, subst, arith, append_assoc, append-nil, length-drop, length-take, inl, inr}
+use Rattle.std.specs.Prelude.{◌↔◌, IsNone, is_some, Some, None, Ok, Err}
+use Rattle.std.proofs.Math.Seq.{take-append-add}
 use Rattle.std.proofs.lemmas.Bool.{true≢false}
-use Rattle.std.proofs.lemmas.List.{length-map, take_all, take-append-drop}
+use Rattle.std.proofs.lemmas.List.{length-map, map_more, take-map}
 use Rattle.std.specs.Io.KnownBytes.{append_known}
 use Rattle.std.specs.declared.option.Option.{Option}
-use Rattle.wt_discover.specs.Files.{AreAllLines, AreCounted}
+use Rattle.wt_discover.specs.Files.{AreAllLines, AreCounted, AreLines}
 use Rattle.wt_discover.proofs.Counted.{all_lines_append}
 use Rattle.wt_io.proofs.Written.{append_known-twice}
 use Rattle.wt_pair.specs.Candidates.{pairs_of}
@@ -16,11 +17,11 @@ use Rattle.wt_pair.specs.Walk.{Progress}
 use Rattle.wt_rule.specs.Texts.{head_line, end_line}
 use Rattle.wt_symbol.specs.Sides.{PairTree, pair_of}
 use Rattle.wt_symbol.specs.declared.side.Pair.{Pair}
-use Rattle.wt_tool.specs.declared.stop.Stop.{Stop}
-use Rattle.wt_tool.specs.declared.stop.Stop.TheVariants.{Memory}
-use Rattle.wt_tool.specs.Discovering.{Discovers, IsWhole, PutsRules}
-use Rattle.wt_tool.specs.Outcomes.{AppendsPrefix, Outcome, Stops}
-use Rattle.wt_tool.proofs.Putting.{append_known-nil, stops_after}
+use Rattle.wt_outcome.specs.declared.stop.Stop.{Stop}
+use Rattle.wt_outcome.specs.declared.stop.Stop.TheVariants.{Memory}
+use Rattle.wt_discovery.specs.Discovering.{Discovers, IsWhole, PutsRulesOf}
+use Rattle.wt_outcome.specs.Outcomes.{Outcome, Stops}
+use Rattle.wt_outcome.proofs.Putting.{append_known-nil, stops_after, whole_prefix}
 
 -- the lines of these pairs were put, and their number was counted
 pub record PutSoFar (steps depth : ℕ) (pairs : List PairTree) (old new : Option (List ℕ)) (count : ℕ) : Type 0 where
@@ -30,16 +31,20 @@ pub record PutSoFar (steps depth : ℕ) (pairs : List PairTree) (old new : Optio
 
 -- the lines of more pairs behind those before
 pub so_far_next : (steps depth : ℕ) (ps qs all : List PairTree) (old mid new : Option (List ℕ)) (text : List ℕ) (count more next : ℕ) → all ≡ ps ++ qs → next ≡ min (count + more) (2 ^ 64 - 1)
-    → PutSoFar steps depth ps old mid count → AreCounted steps depth qs text more → new ≡ append_known mid text → PutSoFar steps depth all old new next
+    → PutSoFar steps depth ps old mid count → AreAllLines steps depth qs text more → new ≡ append_known mid text → PutSoFar steps depth all old new next
 so_far_next steps depth ps qs all old mid new text count more next together added a b put = record {
   lines = a.lines ++ text;
   are = record {
-    number = a.are.number + b.number;
-    are = subst (λ l. AreAllLines steps depth l (a.lines ++ text) (a.are.number + b.number)) (sym together) (all_lines_append steps depth ps qs a.lines text a.are.number b.number a.are.are b.are);
-    counted = let x = a.are.counted in let y = b.counted in omega arith;
+    number = a.are.number + more;
+    are = subst (λ l. AreAllLines steps depth l (a.lines ++ text) (a.are.number + more)) (sym together) (all_lines_append steps depth ps qs a.lines text a.are.number more a.are.are b);
+    counted = let x = a.are.counted in omega arith;
   };
   put = put ∙ (ap (λ m. append_known m text) a.put ∙ append_known-twice old a.lines text);
 }
+
+-- a number that was counted as far as 64 bits go, and more
+pub counted_on : (count found number next : ℕ) → next ≡ min (count + found) (2 ^ 64 - 1) → found ≡ min number (2 ^ 64 - 1) → next ≡ min (count + number) (2 ^ 64 - 1)
+counted_on count found number next a b = omega (arith, a, b)
 
 less : (a b : ℕ) → (b ≤ a → ⊥) → a < b
 less a zero h = absurd (h (omega arith))
@@ -55,26 +60,48 @@ fewer_left b old new lot o is end same next =
     sym (length-map lot.pairs pair_of) ∙ ap length next.pairs ∙ length-take 4096 (drop old.first (pairs_of old.bounds)) ∙ ap (min 4096) (length-drop old.first (pairs_of old.bounds)) in
     subst (λ x. length (pairs_of x) - new.first < length (pairs_of x) - old.first) same (let moved = next.next in omega arith)
 
--- what was written whole is a prefix of it
-pub whole_prefix : (old new : Option (List ℕ)) (text : List ℕ) → new ≡ append_known old text → AppendsPrefix old new text
-whole_prefix old new text e = (length text, e ∙ ap (append_known old) (sym (take_all (length text) text (omega arith))))
+-- the first pairs of the first pairs
+first_of_first : {X : Type 0} (n m : ℕ) (xs : List X) → (k : ℕ) × (take k xs ≡ take n (take m xs))
+first_of_first zero m xs = (0, refl)
+first_of_first (suc n) zero xs = (0, refl)
+first_of_first (suc n) (suc m) [] = (0, refl)
+first_of_first (suc n) (suc m) (x ∷ xs) = let (k, e) = first_of_first n m xs in (suc k, ap (λ ys. x ∷ ys) e)
 
--- want of memory behind the lines of the first pairs
-pub stops_here : (b : Bounds) (rose : Type 0) (n : ℕ) (old new : Option (List ℕ)) (count : ℕ) → PutSoFar b.steps b.depth (take n (pairs_of b)) old new count → PutsRules b rose old new (Err Memory)
-stops_here b rose n old new count s = (n, s.lines, s.are.number, s.are.are, whole_prefix old new s.lines s.put)
+module _ (b : Bounds) (pairs : List PairTree) where
+  -- want of memory behind the lines of the first pairs
+  pub stops_here : (rose : Type 0) (n : ℕ) (old new : Option (List ℕ)) (count : ℕ) → PutSoFar b.steps b.depth (take n pairs) old new count → PutsRulesOf b pairs rose old new (Err Memory)
+  stops_here rose n old new count s = (n, s.lines, s.are.number, s.are.are, whole_prefix old new s.lines s.put)
 
--- a stop in the lines of the next lot
-pub stops_in_lot : (b : Bounds) (rose rose' : Type 0) → (rose → rose') → (n m : ℕ) (lot : List PairTree) (old mid new : Option (List ℕ)) (count more : ℕ) (text : List ℕ) (stop : Stop)
-    → take m (pairs_of b) ≡ take n (pairs_of b) ++ lot → PutSoFar b.steps b.depth (take n (pairs_of b)) old mid count → AreCounted b.steps b.depth lot text more → Stops ⊥ rose mid new text stop
-    → PutsRules b rose' old new (Err stop)
-stops_in_lot b rose rose' f n m lot old mid new count more text stop together s are h = (
-  m,
-  s.lines ++ text,
-  s.are.number + are.number,
-  subst (λ l. AreAllLines b.steps b.depth l (s.lines ++ text) (s.are.number + are.number)) (sym together)
-      (all_lines_append b.steps b.depth (take n (pairs_of b)) lot s.lines text s.are.number are.number s.are.are are.are),
-  subst (λ t. Stops ⊥ rose' old new (s.lines ++ t) stop) (append-nil text) (stops_after rose rose' f old mid new s.lines text [] s.put stop h),
-)
+  -- a stop in the lines of the pairs that are next
+  pub stops_in : (rose rose' : Type 0) → (rose → rose') → (n m : ℕ) (part : List PairTree) (old mid new : Option (List ℕ)) (count more : ℕ) (text : List ℕ) (stop : Stop)
+      → take m pairs ≡ take n pairs ++ part → PutSoFar b.steps b.depth (take n pairs) old mid count → AreAllLines b.steps b.depth part text more → Stops ⊥ rose mid new text stop
+      → PutsRulesOf b pairs rose' old new (Err stop)
+  stops_in rose rose' f n m part old mid new count more text stop together s are h = (
+    m,
+    s.lines ++ text,
+    s.are.number + more,
+    subst (λ l. AreAllLines b.steps b.depth l (s.lines ++ text) (s.are.number + more)) (sym together)
+        (all_lines_append b.steps b.depth (take n pairs) part s.lines text s.are.number more s.are.are are),
+    subst (λ t. Stops ⊥ rose' old new (s.lines ++ t) stop) (append-nil text) (stops_after rose rose' f old mid new s.lines text [] s.put stop h),
+  )
+
+  -- a stop while the lines of a lot are put
+  pub stops_in_lot : (rose rose' : Type 0) → (rose → rose') → (n m : ℕ) (lot : List PairTree) (old mid new : Option (List ℕ)) (count : ℕ) (stop : Stop)
+      → take m pairs ≡ take n pairs ++ lot → PutSoFar b.steps b.depth (take n pairs) old mid count → PutsRulesOf b lot rose mid new (Err stop) → PutsRulesOf b pairs rose' old new (Err stop)
+  stops_in_lot rose rose' f n m lot old mid new count stop together s (k, lines, more, are, h) =
+      let (first, is) = first_of_first (length (take n pairs) + k) m pairs in
+      let within : take first pairs ≡ take n pairs ++ take k lot = is ∙ ap (take (length (take n pairs) + k)) together ∙ take-append-add (take n pairs) lot k in
+      stops_in rose rose' f n first (take k lot) old mid new count more lines stop within s are h
+
+-- the lines of a pair alone
+pub lines_of_one : (p : PairTree) (steps depth : ℕ) (text : List ℕ) (count : ℕ) → AreLines p steps depth text count → AreAllLines steps depth (p ∷ []) text count
+lines_of_one p steps depth text count are = (text, count, [], 0, are, (refl, refl), sym (append-nil text), omega arith)
+
+-- the trees of the first pairs and of the next one
+pub next_pair : (pairs : List Pair) (i : ℕ) (x d : Pair) → i < length pairs → x ≡ get_or pairs i d → take (i + 1) (map pair_of pairs) ≡ take i (map pair_of pairs) ++ pair_of x ∷ []
+next_pair pairs i x d within is =
+    take-map pair_of (i + 1) pairs ∙ map_more pair_of pairs i d within ∙ ap (λ y. map pair_of (take i pairs) ++ pair_of y ∷ []) (sym is)
+    ∙ ap (λ l. l ++ pair_of x ∷ []) (sym (take-map pair_of i pairs))
 
 -- the pairs given with a lot are those given before it and its own
 pub next_pairs : (b : Bounds) (old new : Progress) (lot : Lot) (pairs : List Pair) → old.bounds ≡ b → pairs ≡ lot.pairs → IsNextLot old new lot → take new.first (pairs_of b) ≡ take old.first (pairs_of b) ++ map pair_of pairs
@@ -93,7 +120,7 @@ module _ (b : Bounds) (rose : Type 0) (old : Option (List ℕ)) where
   )
 
   module _ (mid : Option (List ℕ)) (head : mid ≡ append_known old (head_line b.steps)) where
-    pub stops_between : (rose' : Type 0) → (rose' → rose) → (new : Option (List ℕ)) (stop : Stop) → PutsRules b rose' mid new (Err stop) → Discovers b rose old new (Err stop)
+    pub stops_between : (rose' : Type 0) → (rose' → rose) → (new : Option (List ℕ)) (stop : Stop) → PutsRulesOf b (pairs_of b) rose' mid new (Err stop) → Discovers b rose old new (Err stop)
     stops_between rose' f new stop h = (
       record { status = None; text = head_line b.steps ++ h.1 },
       inr (h.0, h.1, h.2, h.3, refl),

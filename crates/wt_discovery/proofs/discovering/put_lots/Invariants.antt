@@ -1,7 +1,7 @@
 use Rattle.std.proofs.Common.{◌≡◌, ◌-◌, ◌≤◌, length, take}
 use Rattle.wt_pair.specs.Candidates.{pairs_of}
-use Rattle.wt_tool.proofs.RuleLines.{PutSoFar}
-use Rattle.wt_tool.proofs.discovering.put_lots.Given as goal
+use Rattle.wt_discovery.proofs.RuleLines.{PutSoFar}
+use Rattle.wt_discovery.proofs.discovering.put_lots.Given as goal
 
 abbrev pub invariant-lots : goal.invariant-lots
 invariant-lots g l = record {

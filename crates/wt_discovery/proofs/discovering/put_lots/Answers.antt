@@ -1,16 +1,15 @@
 use Rattle.std.proofs.Common.{◌≡◌, ◌+◌, ◌-◌, ◌^◌, min, map, rules, subst, sym, take, [], arith}
 use Rattle.std.specs.Prelude.{All}
 use Rattle.wt_symbol.specs.Lawful.{IsLawful}
-use Rattle.std.specs.Io.KnownBytes.{append_known}
 use Rattle.std.proofs.lemmas.Result.{err_from_is_err_and}
 use Rattle.wt_discover.specs.Files.{AreCounted}
 use Rattle.wt_discover.proofs.Counted.{none_counted}
 use Rattle.wt_pair.specs.Candidates.{pairs_of}
 use Rattle.wt_pair.specs.Lots.{IsNextLot}
 use Rattle.wt_symbol.specs.Sides.{pair_of}
-use Rattle.wt_tool.proofs.Putting.{append_known-nil, rose_since}
-use Rattle.wt_tool.proofs.RuleLines.{fewer_left, next_pairs, so_far_next, stops_here, stops_in_lot}
-use Rattle.wt_tool.proofs.discovering.put_lots.Goals as goal
+use Rattle.wt_outcome.proofs.Putting.{append_known-nil, rose_since}
+use Rattle.wt_discovery.proofs.RuleLines.{counted_on, fewer_left, next_pairs, so_far_next, stops_here, stops_in_lot}
+use Rattle.wt_discovery.proofs.discovering.put_lots.Goals as goal
 
 pub lots-init : goal.lots-init
 lots-init g c =
@@ -28,29 +27,22 @@ lots-init g c =
 pub returns-in_err-lot-clause-puts : goal.returns-in_err-lot-clause-puts
 returns-in_err-lot-clause-puts g c =
     let p = err_from_is_err_and c.from_residual.result c.from_residual.ensures.1 in
-    rw (p.1, p.2) (stops_here c.args.bounds.now ⊥ c.lots.pairs.first _ _ c.lots.count c.lots.invariant.so_far)
+    rw (p.1, p.2) (stops_here c.args.bounds.now (pairs_of c.args.bounds.now) ⊥ c.lots.pairs.first _ _ c.lots.count c.lots.invariant.so_far)
 
-pub lines_of_pairs-requires : goal.lines_of_pairs-requires
-lines_of_pairs-requires g c =
+pub put_pairs-requires : goal.put_pairs-requires
+put_pairs-requires g c =
     let next : IsNextLot c.lots.pairs c.next_lot.new.self c.in-Some.lot = search rules in
     let items : c.as_slice.result.now ≡ c.in-Some.lot.pairs = search rules in
     record { lawful = subst (λ ps. All (λ p. IsLawful (pair_of p)) ps) (sym items) next.lawful }
 
-pub returns-in_err-lines-clause-puts : goal.returns-in_err-lines-clause-puts
-returns-in_err-lines-clause-puts g c =
-    let p = err_from_is_err_and c.from_residual-in_err-lines.result c.from_residual-in_err-lines.ensures.1 in
-    rw (p.1, p.2) (stops_here c.args.bounds.now ⊥ c.lots.pairs.first _ _ c.lots.count c.lots.invariant.so_far)
-
-pub returns-in_err-put-clause-puts : goal.returns-in_err-put-clause-puts
-returns-in_err-put-clause-puts g c =
-    let p = err_from_is_err_and c.from_residual-in_err-put.result c.from_residual-in_err-put.ensures.1 in
+pub returns-in_err-found-clause-puts : goal.returns-in_err-found-clause-puts
+returns-in_err-found-clause-puts g c =
+    let p = err_from_is_err_and c.from_residual-in_err-found.result c.from_residual-in_err-found.ensures.1 in
     let next : IsNextLot c.lots.pairs c.next_lot.new.self c.in-Some.lot = search rules in
     let items : c.as_slice.result.now ≡ c.in-Some.lot.pairs = search rules in
-    let text : c.as_slice-in-Some.result.now ≡ c.in_ok-lines.lines.text = search rules in
     let together = next_pairs c.args.bounds.now c.lots.pairs c.next_lot.new.self c.in-Some.lot c.as_slice.result.now c.lots.invariant.bounds items next in
-    let are : AreCounted c.args.bounds.now.steps c.args.bounds.now.depth (map pair_of c.as_slice.result.now) c.as_slice-in-Some.result.now c.in_ok-lines.lines.count = rw text c.in_ok-lines.ensures in
-    rw (p.1, p.2) (stops_in_lot c.args.bounds.now _ _ (rose_since _ _ _ c.lots.invariant.later) c.lots.pairs.first c.next_lot.new.self.first (map pair_of c.as_slice.result.now) _ _ _ c.lots.count
-    c.in_ok-lines.lines.count c.as_slice-in-Some.result.now _ together c.lots.invariant.so_far are c.in_err-put.ensures.puts)
+    rw (p.1, p.2) (stops_in_lot c.args.bounds.now (pairs_of c.args.bounds.now) _ _ (rose_since _ _ _ c.lots.invariant.later) c.lots.pairs.first c.next_lot.new.self.first (map pair_of c.as_slice.result.now) _ _ _ c.lots.count _
+    together c.lots.invariant.so_far c.in_err-found.ensures.puts)
 
 pub lots-smaller : goal.lots-smaller
 lots-smaller g c =
@@ -62,11 +54,11 @@ lots-preserved g c =
     let next : IsNextLot c.lots.pairs c.next_lot.new.self c.in-Some.lot = search rules in
     let items : c.as_slice.result.now ≡ c.in-Some.lot.pairs = search rules in
     let together = next_pairs c.args.bounds.now c.lots.pairs c.next_lot.new.self c.in-Some.lot c.as_slice.result.now c.lots.invariant.bounds items next in
-    let put : g.K.Sink.written c.put.new.sink ≡ append_known (g.K.Sink.written c.lots.sink) c.in_ok-lines.lines.text = search rules in
-    let count : c.saturating_add-count.result ≡ min (c.lots.count + c.in_ok-lines.lines.count) (2 ^ 64 - 1) = search rules in
+    let (lines, are, put) = c.in_ok-found.ensures.puts in
+    let count : c.saturating_add-count.result ≡ min (c.lots.count + c.in_ok-found.found) (2 ^ 64 - 1) = search rules in
     record {
       bounds = search rules;
-      so_far = so_far_next c.args.bounds.now.steps c.args.bounds.now.depth _ (map pair_of c.as_slice.result.now) _ _ _ _ c.in_ok-lines.lines.text c.lots.count c.in_ok-lines.lines.count _ together count c.lots.invariant.so_far
-          c.in_ok-lines.ensures put;
+      so_far = so_far_next c.args.bounds.now.steps c.args.bounds.now.depth _ (map pair_of c.as_slice.result.now) _ _ _ _ lines c.lots.count are.number _ together (counted_on c.lots.count c.in_ok-found.found are.number _ count are.counted)
+          c.lots.invariant.so_far are.are put;
       later = search rules;
     }

@@ -6,8 +6,9 @@ use Rattle.wt_discover.specs.Files.{AreAllLines, AreCounted, IsRuleFile}
 use Rattle.wt_pair.specs.declared.bounds.Bounds.{Bounds}
 use Rattle.wt_pair.specs.Candidates.{pairs_of}
 use Rattle.wt_rule.specs.Texts.{head_line}
-use Rattle.wt_tool.specs.declared.stop.Stop.{Stop}
-use Rattle.wt_tool.specs.Outcomes.{Outcome, Stops}
+use Rattle.wt_symbol.specs.Sides.{PairTree}
+use Rattle.wt_outcome.specs.declared.stop.Stop.{Stop}
+use Rattle.wt_outcome.specs.Outcomes.{Outcome, Stops}
 
 -- the rule file of the bounds
 abbrev pub IsFileOf : Bounds → List ℕ → Type 0
@@ -32,11 +33,11 @@ IsDiscovered b o = IsWhole b o ⊎ IsPart b o
 
 -- The same while the command runs.
 
--- the lines of the rules of all pairs were put, and this is their number; or a stop within the lines of the first of them
-abbrev pub PutsRules : Bounds → Type 0 → Option (List ℕ) → Option (List ℕ) → Result ℕ Stop → Type 0
-PutsRules b rose old new (Ok n) = (lines : List ℕ) × AreCounted b.steps b.depth (pairs_of b) lines n × (new ≡ append_known old lines)
-PutsRules b rose old new (Err stop) =
-    (k : ℕ) × (lines : List ℕ) × (count : ℕ) × AreAllLines b.steps b.depth (take k (pairs_of b)) lines count × Stops ⊥ rose old new lines stop
+-- the lines of the rules of these pairs were put, and this is their number; or a stop within the lines of the first of them
+abbrev pub PutsRulesOf : Bounds → List PairTree → Type 0 → Option (List ℕ) → Option (List ℕ) → Result ℕ Stop → Type 0
+PutsRulesOf b pairs rose old new (Ok n) = (lines : List ℕ) × AreCounted b.steps b.depth pairs lines n × (new ≡ append_known old lines)
+PutsRulesOf b pairs rose old new (Err stop) =
+    (k : ℕ) × (lines : List ℕ) × (count : ℕ) × AreAllLines b.steps b.depth (take k pairs) lines count × Stops ⊥ rose old new lines stop
 
 -- the whole run
 abbrev pub Discovers : Bounds → Type 0 → Option (List ℕ) → Option (List ℕ) → Result ℕ Stop → Type 0

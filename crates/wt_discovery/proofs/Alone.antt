@@ -6,11 +6,11 @@ use Rattle.wt_discover.proofs.OneFile.{one_file, first_pairs_begin}
 use Rattle.wt_pair.specs.Candidates.{pairs_of}
 use Rattle.wt_pair.specs.declared.bounds.Bounds.{Bounds}
 use Rattle.wt_rule.specs.Texts.{head_line}
-use Rattle.wt_tool.specs.declared.stop.Stop.{Stop}
-use Rattle.wt_tool.specs.declared.stop.Stop.TheVariants.{Read, Write, Memory}
-use Rattle.wt_tool.specs.Discovering.{Discovers, IsDiscovered, IsFileOf}
-use Rattle.wt_tool.specs.Outcomes.{AppendsPrefix, Outcome}
-use Rattle.wt_tool.proofs.Putting.{prefix_more}
+use Rattle.wt_outcome.specs.declared.stop.Stop.{Stop}
+use Rattle.wt_outcome.specs.declared.stop.Stop.TheVariants.{Read, Write, Memory}
+use Rattle.wt_discovery.specs.Discovering.{Discovers, IsDiscovered, IsFileOf}
+use Rattle.wt_outcome.specs.Outcomes.{AppendsPrefix, Outcome}
+use Rattle.wt_outcome.proofs.Putting.{prefix_more}
 
 -- a prefix of what a run may have come to is a prefix of the rule file
 discovered_prefix : (b : Bounds) (old new : Option (List ℕ)) (file : List ℕ) (o : Outcome) → IsDiscovered b o → IsFileOf b file → AppendsPrefix old new o.text → AppendsPrefix old new file

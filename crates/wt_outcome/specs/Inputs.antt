@@ -1,8 +1,8 @@
 -- What a file holds, as far as the store tells it.
 use Rattle.std.specs.Prelude.{◌≡◌, ℕ, ◌<◌, ◌≤◌, List, length, IfSome}
 use Rattle.std.specs.declared.option.Option.{Option}
-use Rattle.wt_tool.specs.declared.input.Input.{Input}
-use Rattle.wt_tool.specs.declared.input.Input.TheVariants.{Whole, TooLong}
+use Rattle.wt_outcome.specs.declared.input.Input.{Input}
+use Rattle.wt_outcome.specs.declared.input.Input.TheVariants.{Whole, TooLong}
 
 -- A file of at most 16,777,216 bytes is read whole, and a longer one is too long. A store that tells nothing may hold either.
 abbrev pub IsInput : Option (List ℕ) → Input → Type 0

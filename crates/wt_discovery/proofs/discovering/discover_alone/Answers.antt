@@ -1,5 +1,5 @@
-use Rattle.wt_tool.proofs.Alone.{stop_prefix}
-use Rattle.wt_tool.proofs.discovering.discover_alone.Goals as goal
+use Rattle.wt_discovery.proofs.Alone.{stop_prefix}
+use Rattle.wt_discovery.proofs.discovering.discover_alone.Goals as goal
 
 pub returns-in-Err-clause-prefix : goal.returns-in-Err-clause-prefix
 returns-in-Err-clause-prefix g c =

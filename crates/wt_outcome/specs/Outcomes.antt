@@ -2,8 +2,8 @@
 use Rattle.std.specs.Prelude.{◌≡◌, ◌≢◌, ℕ, List, take, Result, Ok, Err, Some, ◌⊎◌}
 use Rattle.std.specs.declared.option.Option.{Option}
 use Rattle.std.specs.Io.KnownBytes.{append_known}
-use Rattle.wt_tool.specs.declared.stop.Stop.{Stop}
-use Rattle.wt_tool.specs.declared.stop.Stop.TheVariants.{Read, Write, Memory}
+use Rattle.wt_outcome.specs.declared.stop.Stop.{Stop}
+use Rattle.wt_outcome.specs.declared.stop.Stop.TheVariants.{Read, Write, Memory}
 
 -- the status and the whole text of a command that meets no fault and no want of memory; or, without a status, a part of the text
 -- that a run may have come to which ends before its answer is known

@@ -4,12 +4,12 @@ use Rattle.std.specs.Prelude.{Some, None}
 use Rattle.std.specs.declared.option.Option.{Option}
 use Rattle.std.specs.Io.KnownBytes.{append_known}
 use Rattle.std.proofs.Math.Seq.{take-append-add}
-use Rattle.std.proofs.lemmas.List.{append-nil, take-append-le, take_min}
+use Rattle.std.proofs.lemmas.List.{append-nil, take-append-le, take_all, take_min}
 use Rattle.wt_io.specs.Causes.{Rose}
 use Rattle.wt_io.proofs.Written.{append_known-twice}
-use Rattle.wt_tool.specs.declared.stop.Stop.{Stop}
-use Rattle.wt_tool.specs.declared.stop.Stop.TheVariants.{Read, Write, Memory}
-use Rattle.wt_tool.specs.Outcomes.{AppendsPrefix, Stops}
+use Rattle.wt_outcome.specs.declared.stop.Stop.{Stop}
+use Rattle.wt_outcome.specs.declared.stop.Stop.TheVariants.{Read, Write, Memory}
+use Rattle.wt_outcome.specs.Outcomes.{AppendsPrefix, Stops}
 
 pub rose_since : (a b c : ℕ) → a ≤ b → Rose b c → Rose a c
 rose_since a b c le h = omega arith
@@ -21,6 +21,10 @@ append_known-nil (Some w) = ap Some (append-nil w)
 -- nothing written is a prefix of every text
 pub prefix_none : (w : Option (List ℕ)) (text : List ℕ) → AppendsPrefix w w text
 prefix_none w text = (0, sym (append_known-nil w))
+
+-- what was written whole is a prefix of it
+pub whole_prefix : (old new : Option (List ℕ)) (text : List ℕ) → new ≡ append_known old text → AppendsPrefix old new text
+whole_prefix old new text e = (length text, e ∙ ap (append_known old) (sym (take_all (length text) text (omega arith))))
 
 -- a prefix of what comes next is a prefix of the whole
 pub prefix_after : (old mid new : Option (List ℕ)) (a b rest : List ℕ) → mid ≡ append_known old a → AppendsPrefix mid new b → AppendsPrefix old new (a ++ (b ++ rest))

@@ -1,8 +1,8 @@
 //! What a file holds.
 ghost use Rattle.std.specs.Prelude.{◌≡◌, ◌≤◌, ℕ, List, IfOk};
 ghost use Rattle.wt_io.specs.Causes.{Rose};
-ghost use Rattle.wt_tool.specs.Inputs.{IsInput};
-ghost use Rattle.wt_tool.specs.Outcomes.{StopsReading};
+ghost use Rattle.wt_outcome.specs.Inputs.{IsInput};
+ghost use Rattle.wt_outcome.specs.Outcomes.{StopsReading};
 
 use crate::stop::Stop;
 use std::alloc::Global;
@@ -14,13 +14,13 @@ const LIMIT: u64 = 16_777_216;
 
 /// The bytes of a file, or that there are more than the limit.
 #[derive(Debug, Drop)]
-pub(crate) enum Input {
+pub enum Input {
     Whole(Bytes),
     TooLong,
 }
 
 /// Reads a file, which is no fault where it is too long.
-pub(crate) fn read_input<S: Store>(alloc: Global, store: &mut S, name: &str) -> Result<Input, Stop>
+pub fn read_input<S: Store>(alloc: Global, store: &mut S, name: &str) -> Result<Input, Stop>
     ensures ok { IfOk result (λ input. IsInput (S.told store.old name.now) input) }
     ensures err { StopsReading (Rose (S.faults store.old) (S.faults store.new)) result }
     ensures later { S.faults store.old ≤ S.faults store.new }

@@ -1,12 +1,12 @@
 //! Why a command ended early.
 ghost use Rattle.std.specs.Prelude.{◌≡◌};
-ghost use Rattle.wt_tool.specs.Causes.{stop_status};
+ghost use Rattle.wt_outcome.specs.Causes.{stop_status};
 
 use std::alloc::{AllocError, AllocFailed};
 use thiserror::Error;
 
 #[derive(Clone, Copy, Debug, PartialEq, Eq, Error)]
-pub(crate) enum Stop {
+pub enum Stop {
     #[error("a read failed")]
     Read,
     #[error("a write failed")]
@@ -17,7 +17,7 @@ pub(crate) enum Stop {
 
 impl Stop {
     /// The status of a command that stopped so.
-    pub(crate) fn status(self) -> u8
+    pub fn status(self) -> u8
         ensures { result ≡ stop_status self }
     {
         match self {
@@ -30,7 +30,7 @@ impl Stop {
 
 impl From<AllocError> for Stop {
     ghost use Rattle.std.specs.Prelude.{◌≡◌};
-    ghost use Rattle.wt_tool.specs.declared.stop.Stop.TheVariants.{Memory};
+    ghost use Rattle.wt_outcome.specs.declared.stop.Stop.TheVariants.{Memory};
 
     ghost from_gives = { λ _ stop. stop ≡ Memory };
 
@@ -41,7 +41,7 @@ impl From<AllocError> for Stop {
 
 impl<T: Drop> From<AllocFailed<T>> for Stop {
     ghost use Rattle.std.specs.Prelude.{◌≡◌};
-    ghost use Rattle.wt_tool.specs.declared.stop.Stop.TheVariants.{Memory};
+    ghost use Rattle.wt_outcome.specs.declared.stop.Stop.TheVariants.{Memory};
 
     ghost from_gives = { λ _ stop. stop ≡ Memory };
 

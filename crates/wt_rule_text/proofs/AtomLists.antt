@@ -1,6 +1,5 @@
 -- Atoms read one after another.
-use Rattle.std.proofs.Common.{◌≡◌, ℕ, zero, suc, ◌+◌, ◌-◌, ◌<◌, ◌≤◌, List, [], ◌∷◌, ◌++◌, length, Some, None, refl, sym, ap, ◌∙◌, subst, arith, append_assoc, append-nil}
-use Rattle.std.specs.declared.option.Option.{Option}
+use Rattle.std.proofs.Common.{◌≡◌, ℕ, zero, suc, ◌+◌, ◌-◌, ◌<◌, ◌≤◌, List, [], ◌∷◌, ◌++◌, length, Some, None, refl, sym, ap, ◌∙◌, arith, append_assoc, append-nil}
 use Rattle.wt_rule_text.specs.declared.parsed.ParsedAtom.{ParsedAtom}
 use Rattle.wt_rule_text.specs.Reading.{spaced_atom, more_atoms, before, then_more}
 
@@ -15,7 +14,7 @@ at_first line from first = let e : length line - 0 ≡ length line = omega arith
 one_more : (most : ℕ) (line : List ℕ) (at : ℕ) (a : ParsedAtom × ℕ) → spaced_atom line at ≡ Some a → more_atoms (suc most) line at ≡ before a.0 (more_atoms most line a.1)
 one_more most line at a is = ap (λ o. then_more o at (more_atoms most line)) is
 
-no_more : (most : ℕ) (line : List ℕ) (at : ℕ) → spaced_atom line at ≡ None → more_atoms most line at ≡ ([], at)
+pub no_more : (most : ℕ) (line : List ℕ) (at : ℕ) → spaced_atom line at ≡ None → more_atoms most line at ≡ ([], at)
 no_more zero line at is = refl
 no_more (suc most) line at is = ap (λ o. then_more o at (more_atoms most line)) is
 

@@ -5,3 +5,5 @@ pub mod Spans
 pub mod Numerals
 pub mod Operators
 pub mod SideForms
+pub mod AtomForms
+pub mod RuleForms

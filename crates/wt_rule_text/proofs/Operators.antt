@@ -1,15 +1,15 @@
 -- Lists and operators are read where they stand, and only there.
-use Rattle.std.proofs.Common.{◌≡◌, ℕ, zero, suc, ◌+◌, Bool, true, false, List, [], ◌∷◌, ◌++◌, length, drop, Some, None, refl, sym, ap, ◌∙◌, append_assoc, append-nil, inl, inr, arith}
-use Rattle.std.specs.Prelude.{codes, ◌⊎◌, if◌then◌else◌}
+use Rattle.std.proofs.Common.{◌≡◌, ℕ, ◌+◌, Bool, true, false, List, [], ◌++◌, length, drop, Some, None, refl, sym, append-nil, inl, inr}
+use Rattle.std.specs.Prelude.{codes}
 use Rattle.std.specs.declared.option.Option.{Option}
 use Rattle.wt_rule_text.specs.declared.parsed.Listed.{Listed}
 use Rattle.wt_rule_text.specs.declared.parsed.Unary.{Unary}
 use Rattle.wt_rule_text.specs.declared.parsed.Unary.TheVariants.{Proj, Filter, Dedup}
 use Rattle.wt_rule_text.specs.declared.parsed.Binary.{Binary}
 use Rattle.wt_rule_text.specs.declared.parsed.Binary.TheVariants.{InnerJoin, LeftJoin, InSub}
-use Rattle.wt_rule_text.specs.Reading.{after, symbol, anchored, listed, two_listed, proj, filter, dedup, unary, inner_join, left_join, in_sub, binary}
+use Rattle.wt_rule_text.specs.Reading.{after, symbol, listed, two_listed, proj, filter, dedup, unary, inner_join, left_join, in_sub, binary}
 use Rattle.wt_rule_text.specs.Forms.{IsSymbol, IsAnchor, IsList, IsUnary, IsTwoLists, IsBinary}
-use Rattle.wt_rule_text.proofs.Spans.{Span, Stops, ends, stops, split, join, after_some, after_none, after_is, bind_some, or_some, Found, FoundWhole, FoundTwo, made}
+use Rattle.wt_rule_text.proofs.Spans.{Span, Stops, stops, split, join, after_some, after_none, after_is, bind_some, or_some, Found, FoundWhole, FoundTwo, made}
 use Rattle.wt_rule_text.proofs.Numerals.{symbol_some, symbol_is}
 
 -- ---- lists
@@ -113,7 +113,7 @@ filter_is marked line at p is =
     let (y, is_y, span_y, _) = symbol_is (codes "p") line n q pred in
     let (x, is_x, span_x, _) = listed_is marked line k a list in
     let whole = join line at (codes "Filter<") n _ m (after_is line at (codes "Filter<") n word)
-        (join line n y q.1 _ m span_y (join line q.1 (codes ",") k _ m (after_is line q.1 (codes ",") k comma) (join line k x a.1 (codes ">(") m span_x (after_is line a.1 (codes ">(") m close)))) in
+    (join line n y q.1 _ m span_y (join line q.1 (codes ",") k _ m (after_is line q.1 (codes ",") k comma) (join line k x a.1 (codes ">(") m span_x (after_is line a.1 (codes ">(") m close)))) in
     made (Found (IsUnary marked) line at) (Filter q.0 a.0, m) p r5 (codes "Filter<" ++ (y ++ (codes "," ++ (x ++ codes ">("))), (y, x, is_y, is_x, refl), whole)
 
 dedup_is : (marked : Bool) (line : List ℕ) (at : ℕ) (p : Unary × ℕ) → dedup line at ≡ Some p → Found (IsUnary marked) line at p

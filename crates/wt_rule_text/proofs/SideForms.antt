@@ -1,15 +1,15 @@
 -- Sides are read where they stand, and only there.
-use Rattle.std.proofs.Common.{◌≡◌, ℕ, zero, suc, ◌+◌, ◌≤◌, Bool, true, false, List, [], ◌∷◌, ◌++◌, length, drop, Some, None, refl, sym, ap, ◌∙◌, arith, length-append, inl, inr}
-use Rattle.std.specs.Prelude.{codes, ◌⊎◌}
+use Rattle.std.proofs.Common.{◌≡◌, ℕ, zero, suc, ◌+◌, ◌≤◌, Bool, List, ◌++◌, length, drop, Some, None, refl, ap, arith, length-append, inl, inr}
+use Rattle.std.specs.Prelude.{codes}
 use Rattle.std.specs.declared.option.Option.{Option}
 use Rattle.wt_rule_text.specs.declared.parsed.Unary.{Unary}
 use Rattle.wt_rule_text.specs.declared.parsed.Unary.TheVariants.{Proj, Filter, Dedup}
 use Rattle.wt_rule_text.specs.declared.parsed.Binary.{Binary}
 use Rattle.wt_rule_text.specs.declared.parsed.Binary.TheVariants.{InnerJoin, LeftJoin, InSub}
 use Rattle.wt_rule_text.specs.Trees.{SideText, input, one, two}
-use Rattle.wt_rule_text.specs.Reading.{after, symbol, proj, filter, dedup, unary, inner_join, left_join, in_sub, binary, operand, two_operands, side_over, side}
+use Rattle.wt_rule_text.specs.Reading.{after, symbol, unary, binary, operand, two_operands, side_over, side}
 use Rattle.wt_rule_text.specs.Forms.{IsSymbol, IsUnary, IsBinary, IsSide}
-use Rattle.wt_rule_text.proofs.Spans.{Span, Stops, ends, stops, split, join, after_some, after_none, after_is, bind_some, first_some, within, Found, FoundWhole, FoundTwo, made}
+use Rattle.wt_rule_text.proofs.Spans.{Span, Stops, stops, split, join, after_some, after_none, after_is, bind_some, first_some, Found, made}
 use Rattle.wt_rule_text.proofs.Numerals.{symbol_some, symbol_is}
 use Rattle.wt_rule_text.proofs.Operators.{unary_some, unary_is, binary_some, binary_is}
 
@@ -22,17 +22,20 @@ no_leaf_unary marked line at Dedup o end is span = let whole : Span line at (cod
 
 no_leaf_binary : (marked : Bool) (line : List ℕ) (at : ℕ) (b : Binary) (o : List ℕ) (end : ℕ) → IsBinary marked b o → Span line at o end → (symbol (codes "r") line at ≡ None) × (unary marked line at ≡ None)
 no_leaf_binary marked line at (InnerJoin left right) o end (l, lists, is) span =
-    let whole : Span line at (codes "InnerJoin<" ++ l) end = rw is at span in
-    (rw (after_none line at (codes "r") _ whole.is refl) refl,
-    rw (after_none line at (codes "Proj<") _ whole.is refl, after_none line at (codes "Filter<") _ whole.is refl, after_none line at (codes "Dedup(") _ whole.is refl) refl)
+    let whole : Span line at (codes "InnerJoin<" ++ l) end = rw is at span in (
+      rw (after_none line at (codes "r") _ whole.is refl) refl,
+      rw (after_none line at (codes "Proj<") _ whole.is refl, after_none line at (codes "Filter<") _ whole.is refl, after_none line at (codes "Dedup(") _ whole.is refl) refl,
+    )
 no_leaf_binary marked line at (LeftJoin left right) o end (l, lists, is) span =
-    let whole : Span line at (codes "LeftJoin<" ++ l) end = rw is at span in
-    (rw (after_none line at (codes "r") _ whole.is refl) refl,
-    rw (after_none line at (codes "Proj<") _ whole.is refl, after_none line at (codes "Filter<") _ whole.is refl, after_none line at (codes "Dedup(") _ whole.is refl) refl)
+    let whole : Span line at (codes "LeftJoin<" ++ l) end = rw is at span in (
+      rw (after_none line at (codes "r") _ whole.is refl) refl,
+      rw (after_none line at (codes "Proj<") _ whole.is refl, after_none line at (codes "Filter<") _ whole.is refl, after_none line at (codes "Dedup(") _ whole.is refl) refl,
+    )
 no_leaf_binary marked line at (InSub list) o end (a, is_list, is) span =
-    let whole : Span line at (codes "InSub<" ++ (a ++ codes ">(")) end = rw is at span in
-    (rw (after_none line at (codes "r") _ whole.is refl) refl,
-    rw (after_none line at (codes "Proj<") _ whole.is refl, after_none line at (codes "Filter<") _ whole.is refl, after_none line at (codes "Dedup(") _ whole.is refl) refl)
+    let whole : Span line at (codes "InSub<" ++ (a ++ codes ">(")) end = rw is at span in (
+      rw (after_none line at (codes "r") _ whole.is refl) refl,
+      rw (after_none line at (codes "Proj<") _ whole.is refl, after_none line at (codes "Filter<") _ whole.is refl, after_none line at (codes "Dedup(") _ whole.is refl) refl,
+    )
 
 leaf_text : (r : ℕ) (text : List ℕ) → IsSymbol (codes "r") r text → 1 ≤ length text
 leaf_text r text is = omega (arith, ap length is.is)
@@ -58,7 +61,7 @@ side_some (suc depth) marked line at (two b s t) text end l (o, a, c, is_b, is_s
     let (right, close) = split line _ c (codes ")") end r3 in
     let none = no_leaf_binary marked line at b o _ is_b here in
     let long : length text ≡ length o + (length a + (1 + (length c + 1))) =
-        omega (arith, ap length is, length-append o (a ++ (codes "," ++ (c ++ codes ")"))), length-append a (codes "," ++ (c ++ codes ")")), length-append c (codes ")")) in
+    omega (arith, ap length is, length-append o (a ++ (codes "," ++ (c ++ codes ")"))), length-append a (codes "," ++ (c ++ codes ")")), length-append c (codes ")")) in
     let first = side_some depth marked line _ s a _ (omega arith) is_s left (stops line _ (codes "," ++ (c ++ codes ")")) end r2 refl) in
     let second = side_some depth marked line _ t c _ (omega arith) is_t right (stops line _ (codes ")") end close refl) in
     rw (none.0, none.1, binary_some marked line at b o _ is_b here, first, after_some line _ (codes ",") _ comma, second, after_some line _ (codes ")") end close) refl

@@ -1,7 +1,5 @@
 -- A side is read one operator deeper.
-use Rattle.std.proofs.Common.{◌≡◌, ◌≢◌, ℕ, zero, suc, ◌-◌, ◌==◌, Bool, true, false, List, Some, None, refl, arith}
-use Rattle.std.specs.Prelude.{Option}
-use Rattle.wt_rule_text.specs.Trees.{SideText}
+use Rattle.std.proofs.Common.{◌≡◌, ◌≢◌, ℕ, zero, suc, ◌-◌, Bool, List, None, refl, arith}
 use Rattle.wt_rule_text.specs.Reading.{side, side_over}
 
 pub deeper : (depth : ℕ) (marked : Bool) (line : List ℕ) (at : ℕ) → depth ≢ 0 → side depth marked line at ≡ side_over (side (depth - 1) marked line) marked line at

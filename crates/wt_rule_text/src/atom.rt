@@ -139,11 +139,7 @@ fn push_more(line: &[u8], from: usize, atoms: &mut Vec<ParsedAtom>) -> Result<us
 }
 
 /// The first atom and those that follow.
-fn some_atoms(
-    alloc: Global,
-    line: &[u8],
-    at: usize,
-) -> Result<(Vec<ParsedAtom>, usize), LineError>
+fn some_atoms(alloc: Global, line: &[u8], at: usize) -> Result<(Vec<ParsedAtom>, usize), LineError>
     ensures { Gives (λ a. (a.0.items, a.1)) (spec.some_atoms line.now at) result }
 {
     let (first, at) = atom(line, at).ok_or(LineError::Syntax)?;

@@ -11,4 +11,5 @@ pub use parsed::{
     Binary, LineError, Listed, ParsedAtom, ParsedAtoms, ParsedRule, ParsedSide, Unary, Version,
     Weights,
 };
+pub use rule::{a_line_has_one_rule, parse_rule};
 pub use scan::{after, number};

@@ -1,8 +1,9 @@
 //! The line of a rule.
-ghost use Rattle.std.specs.Prelude.{◌≡◌, ℕ, Option, codes, length, Result, Ok, Err};
+ghost use Rattle.std.specs.Prelude.{◌≡◌, ℕ, List, Option, IfOk, codes, length, Result, Ok, Err};
 ghost use Rattle.wt_rule_text.specs.Reading as spec;
 ghost use Rattle.wt_rule_text.specs.Trees.{side_of, RuleText, rule_of};
 ghost use Rattle.wt_rule_text.specs.Given.{Gives};
+ghost use Rattle.wt_rule_text.specs.Forms.{IsLine};
 
 use crate::atom::atoms;
 use crate::parsed::{LineError, ParsedRule, ParsedSide, Version, Weights};
@@ -62,3 +63,17 @@ fn read_rule(alloc: Global, line: &[u8], version: Version) -> Result<ParsedRule,
         weights,
     })
 }
+
+/// Reads the line of a rule, which stands without its LF, in the form of a version. Syntax comes
+/// exactly where the line has not this form.
+pub fn parse_rule(alloc: Global, line: &[u8], version: Version) -> Result<ParsedRule, LineError>
+    ensures line { IfOk result (λ rule. IsLine version (rule_of rule) line.now) }
+    ensures syntax { result ≡ Err LineError.Syntax → (rule : RuleText) → IsLine version rule line.now → ⊥ }
+{
+    read_rule(alloc, line, version)
+}
+
+/// A law: a line is the line of one rule.
+pub fn a_line_has_one_rule()
+    ensures { (version : Version) (line : List ℕ) (a b : RuleText) → IsLine version a line → IsLine version b line → a ≡ b }
+{}

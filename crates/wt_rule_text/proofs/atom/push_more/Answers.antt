@@ -1,4 +1,4 @@
-use Rattle.std.proofs.Common.{◌≡◌, List, ◌∷◌, ◌++◌, [], sym, ◌∙◌, rules}
+use Rattle.std.proofs.Common.{◌≡◌, ◌∷◌, ◌++◌, [], sym, ◌∙◌, rules}
 use Rattle.wt_rule_text.proofs.AtomLists.{next_kept, stopped}
 use Rattle.wt_rule_text.proofs.atom.push_more.Goals as goal
 

@@ -1,4 +1,3 @@
-use Rattle.std.proofs.Common.{length}
 use Rattle.wt_rule_text.proofs.AtomLists.{IsSoFar}
 use Rattle.wt_rule_text.proofs.atom.push_more.Given as goal
 

@@ -1,6 +1,6 @@
-use Rattle.std.proofs.Common.{◌≡◌, ◌≤◌, length, take, drop, rules, arith, length-drop, length-take}
+use Rattle.std.proofs.Common.{rules, arith}
 use Rattle.std.proofs.lemmas.Grind.{common_steps}
-use Rattle.wt_rule_text.specs.Reading.{number, leading}
+use Rattle.wt_rule_text.specs.Reading.{number}
 use Rattle.wt_rule_text.proofs.Digits.{leading-le}
 use Rattle.wt_rule_text.proofs.scan.number.Goals as goal
 

@@ -1,4 +1,4 @@
-use Rattle.std.proofs.Common.{◌≡◌, ◌+◌, ◌-◌, ◌*◌, ◌^◌, ◌<◌, min, get_or, ◌∙◌, refl, arith}
+use Rattle.std.proofs.Common.{◌≡◌, ◌+◌, ◌-◌, ◌*◌, ◌^◌, min, get_or, ◌∙◌, refl, arith}
 use Rattle.wt_rule_text.proofs.Digits.{digit_read, all_read}
 use Rattle.wt_rule_text.proofs.scan.value.Goals as goal
 

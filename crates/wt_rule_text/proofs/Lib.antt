@@ -1,0 +1,9 @@
+pub mod Digits
+pub mod AtomLists
+pub mod Sides
+pub mod Spans
+pub mod Numerals
+pub mod Operators
+pub mod SideForms
+pub mod AtomForms
+pub mod RuleForms

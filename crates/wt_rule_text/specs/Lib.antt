@@ -1,0 +1,5 @@
+pub mod Numbers
+pub mod Reading
+pub mod Trees
+pub mod Given
+pub mod Forms

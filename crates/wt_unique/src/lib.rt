@@ -7,6 +7,7 @@ mod joining;
 mod sets;
 mod walk;
 
+pub use sets::{all_below, is_in, listed_at};
 pub use walk::is_unique;
 use wt_value::{Cols, Seq};
 

@@ -83,7 +83,8 @@ fn place_or_zero(list: &[u32], place: u32) -> u32
     }
 }
 
-fn listed_one(alloc: Global, list: &[u32], set: &[u32]) -> Result<Cols, WantOfMemory>
+/// What a list has at the places of a set.
+pub fn listed_at(alloc: Global, list: &[u32], set: &[u32]) -> Result<Cols, WantOfMemory>
     ensures { IfOk result (λ r. r ≡ facts.listed_at list.now set.now) }
 {
     let mut out = Cols::new(alloc);
@@ -99,7 +100,7 @@ pub fn listed(alloc: Global, list: &[u32], sets: &Sets) -> Result<Sets, WantOfMe
 {
     let mut out = Sets::new(alloc);
     for set in sets.as_slice() {
-        out.push(listed_one(alloc, list, set.as_slice())?)?;
+        out.push(listed_at(alloc, list, set.as_slice())?)?;
     }
     Ok(out)
 }

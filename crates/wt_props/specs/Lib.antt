@@ -1,0 +1,3 @@
+pub mod Tables
+pub mod Origins
+pub mod Referring

@@ -1,0 +1,9 @@
+//! Rules of the lines of a rule file.
+#![tactic(auto)]
+
+mod fault;
+mod pair;
+mod symbols;
+
+pub use fault::{RuleFault, RuleLineError};
+pub use wt_rule_text::Version;

@@ -1,6 +1,7 @@
 //! Rules of the lines of a rule file.
 #![tactic(auto)]
 
+mod atoms;
 mod fault;
 mod pair;
 mod symbols;

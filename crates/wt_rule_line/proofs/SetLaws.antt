@@ -1,0 +1,38 @@
+-- The set that is found by its number.
+use Rattle.std.proofs.Common.{◌≡◌, ℕ, ◌^◌, ◌<◌, List, map, length, refl, sym, ap, subst, ◌∙◌, arith}
+use Rattle.std.proofs.lemmas.List.{length-map}
+use Rattle.wt_bag.specs.Bags.{Each}
+use Rattle.wt_bag.specs.Choices.{Apart, Has}
+use Rattle.wt_symbol.specs.Sides.{PairTree}
+use Rattle.wt_symbol.specs.Lawful.{IsLawful}
+use Rattle.wt_constraint.specs.declared.set.AtomSet.{AtomSet}
+use Rattle.wt_constraint.specs.Atoms.{atoms_of_pair}
+use Rattle.wt_rule_text.specs.declared.parsed.ParsedAtom.{ParsedAtom}
+use Rattle.wt_rule_line.specs.Sets.{as_written, written_atoms_of, AreAtomsOf, IsSetOf, picked}
+use Rattle.wt_rule_line.proofs.Picked.{chosen_picked, picked_once}
+use Rattle.wt_rule_line.proofs.AtomsApart.{written_apart}
+
+pub apart_all : (p : PairTree) → IsLawful p → (all : List ParsedAtom) → all ≡ written_atoms_of p → Apart all
+apart_all p lawful all is = subst Apart (sym is) (written_apart p lawful)
+
+pub found_set : (p : PairTree) (all list : List ParsedAtom) (n : ℕ) → all ≡ written_atoms_of p → picked n all ≡ list → n < 2 ^ length all → IsSetOf p (record { 0 = n }) list
+found_set p all list n is picks small = record {
+  within = subst (λ k. n < 2 ^ k) (ap length is ∙ length-map (atoms_of_pair p) (as_written p.anchors)) small;
+  atoms = chosen_picked (as_written p.anchors) (record { 0 = n }) (atoms_of_pair p) ∙ ap (picked n) (sym is) ∙ picks;
+}
+
+pub found_none : (p : PairTree) (all list : List ParsedAtom) → all ≡ written_atoms_of p → Each (λ a. Has a all) list → ((n : ℕ) → picked n all ≡ list → ⊥) →
+    AreAtomsOf p list × ((set : AtomSet) → IsSetOf p set list → ⊥)
+found_none p all list is among none =
+    (subst (λ l. Each (λ a. Has a l) list) is among,
+    λ set of. none set.0 (ap (picked set.0) is ∙ sym (chosen_picked (as_written p.anchors) set (atoms_of_pair p)) ∙ of.atoms))
+
+-- some atoms are those of one set
+pub one_set : (p : PairTree) → IsLawful p → (a b : AtomSet) (list : List ParsedAtom) → IsSetOf p a list → IsSetOf p b list → a ≡ b
+one_set p lawful a b list is_a is_b =
+    let count = length-map (atoms_of_pair p) (as_written p.anchors) in
+    let small_a : a.0 < 2 ^ length (written_atoms_of p) = subst (λ k. a.0 < 2 ^ k) (sym count) is_a.within in
+    let small_b : b.0 < 2 ^ length (written_atoms_of p) = subst (λ k. b.0 < 2 ^ k) (sym count) is_b.within in
+    let same = picked_once (written_atoms_of p) (written_apart p lawful) a.0 b.0 small_a small_b
+        (sym (chosen_picked (as_written p.anchors) a (atoms_of_pair p)) ∙ is_a.atoms ∙ sym is_b.atoms ∙ chosen_picked (as_written p.anchors) b (atoms_of_pair p)) in
+    ap (λ n. record { 0 = n }) same

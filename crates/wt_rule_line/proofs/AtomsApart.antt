@@ -1,5 +1,5 @@
 -- No atom of a lawful pair stands twice.
-use Rattle.std.proofs.Common.{◌≡◌, ◌≢◌, ℕ, zero, suc, ◌+◌, ◌<◌, ◌≤◌, Bool, true, false, List, [], ◌∷◌, ◌++◌, map, length, refl, sym, ap, subst, ◌∙◌, arith, length-append}
+use Rattle.std.proofs.Common.{◌≡◌, ◌≢◌, ℕ, suc, ◌+◌, ◌<◌, ◌≤◌, Bool, true, false, List, [], ◌∷◌, ◌++◌, map, length, refl, sym, ap, subst, ◌∙◌, arith, length-append}
 use Rattle.std.specs.Prelude.{◌==◌, ◌&&◌, Option, Some, None}
 use Rattle.std.specs.Option.{option_map, option_to_list}
 use Rattle.std.proofs.lemmas.Grind.{common_steps}
@@ -270,10 +270,11 @@ reference_kinds (dedup s) = reference_kinds s
 
 -- the kinds below k, and more of the kind k
 next_kind : (k : ℕ) (xs ys : List Atom) → Each (λ a. kind_number a < k) xs × Apart xs → Each (λ a. kind_number a ≡ k) ys → Apart ys → Each (λ a. kind_number a < suc k) (xs ++ ys) × Apart (xs ++ ys)
-next_kind k xs ys before kinds apart =
-    (both_each (λ a. kind_number a < suc k) xs ys (each_then (λ a. kind_number a < k) (λ a. kind_number a < suc k) xs (λ a l. omega arith) before.0)
-    (each_then (λ a. kind_number a ≡ k) (λ a. kind_number a < suc k) ys (λ a e. omega arith) kinds),
-    apart_append kind_number k xs ys before.0 (each_then (λ a. kind_number a ≡ k) (λ a. k ≤ kind_number a) ys (λ a e. omega arith) kinds) before.1 apart)
+next_kind k xs ys before kinds apart = (
+  both_each (λ a. kind_number a < suc k) xs ys (each_then (λ a. kind_number a < k) (λ a. kind_number a < suc k) xs (λ a l. omega arith) before.0)
+      (each_then (λ a. kind_number a ≡ k) (λ a. kind_number a < suc k) ys (λ a e. omega arith) kinds),
+  apart_append kind_number k xs ys before.0 (each_then (λ a. kind_number a ≡ k) (λ a. k ≤ kind_number a) ys (λ a e. omega arith) kinds) before.1 apart,
+)
 
 leaf_kinds : (xs : List ℕ) → Each (λ a. kind_number a ≡ 0) (each_two Leaves xs)
 unfolding kind_number

@@ -1,6 +1,6 @@
 -- Lawful symbols of small sides are bytes, so a pair's faults show in its bytes.
-use Rattle.std.proofs.Common.{◌≡◌, ℕ, zero, suc, ◌+◌, ◌*◌, ◌<◌, ◌≤◌, min, Bool, true, false, List, [], ◌∷◌, ◌++◌, map, length, drop, get_or, Some, None, refl, sym, ap, ◌∙◌, subst, inl, inr, arith, length-append}
-use Rattle.std.specs.Prelude.{◌⊎◌, ◌==◌, ◌&&◌, ◌||◌, nat_le, slice_index, if◌then◌else◌}
+use Rattle.std.proofs.Common.{◌≡◌, ℕ, zero, suc, ◌+◌, ◌*◌, ◌<◌, ◌≤◌, Bool, true, false, List, [], ◌∷◌, ◌++◌, map, length, drop, get_or, Some, None, refl, sym, ap, ◌∙◌, subst, inl, inr, arith, length-append}
+use Rattle.std.specs.Prelude.{◌⊎◌, ◌==◌, ◌&&◌, ◌||◌, slice_index, if◌then◌else◌}
 use Rattle.std.proofs.lemmas.Grind.{common_steps}
 use Rattle.std.proofs.lemmas.List.{drop_all, drop_more, map-append, length-map}
 use Rattle.std.specs.declared.option.Option.{Option}
@@ -111,22 +111,24 @@ stands_below : (s : SideTree) (A : List ℕ) (a : ℕ) → EachBelow 255 (visibl
 stands_below s A a seen h = occurs_below 255 (slice_index A a) (visible_leaves s A) seen h
 
 joined : (a b : ℕ) (s t : SideTree) (A : List ℕ) → SeenAlike s A → SeenAlike t A → SeenAlike (inner_join a b s t) A
-joined a b s t A (e, k) (f, m) =
-    (and_same ((stands s A && stands t A) && sees s A a) _ (sees t A b) _
-    (and_same (stands s A && stands t A) _ (sees s A a) _ (and_same (stands s A) _ (stands t A) _ e (λ h. f)) (λ h. same_sees s A a (k (and_both (stands s A) (stands t A) h).0)))
-    (λ h. same_sees t A b (m (and_both (stands s A) (stands t A) (and_both (stands s A && stands t A) (sees s A a) h).0).1)),
-    λ h.
-    let both = and_both (stands s A) (stands t A) (and_both (stands s A && stands t A) (sees s A a) (and_both ((stands s A && stands t A) && sees s A a) (sees t A b) h).0).0 in
-    let left = k both.0 in
-    let right = m both.1 in
-    (ap (λ v. v ++ visible_leaves t (map in_byte A)) left.0 ∙ ap (λ v. visible_leaves s A ++ v) right.0, append_below 255 (visible_leaves s A) (visible_leaves t A) left.1 right.1))
+joined a b s t A (e, k) (f, m) = (
+  and_same ((stands s A && stands t A) && sees s A a) _ (sees t A b) _
+      (and_same (stands s A && stands t A) _ (sees s A a) _ (and_same (stands s A) _ (stands t A) _ e (λ h. f)) (λ h. same_sees s A a (k (and_both (stands s A) (stands t A) h).0)))
+      (λ h. same_sees t A b (m (and_both (stands s A) (stands t A) (and_both (stands s A && stands t A) (sees s A a) h).0).1)),
+  λ h.
+      let both = and_both (stands s A) (stands t A) (and_both (stands s A && stands t A) (sees s A a) (and_both ((stands s A && stands t A) && sees s A a) (sees t A b) h).0).0 in
+      let left = k both.0 in
+      let right = m both.1 in
+      (ap (λ v. v ++ visible_leaves t (map in_byte A)) left.0 ∙ ap (λ v. visible_leaves s A ++ v) right.0, append_below 255 (visible_leaves s A) (visible_leaves t A) left.1 right.1),
+)
 
 seen_alike : (s : SideTree) (A : List ℕ) → EachBelow 255 (leaves_of s) → SeenAlike s A
 seen_alike (input r) A l = (refl, λ h. (refl, l))
 seen_alike (proj a s) A l =
-    let (e, k) = seen_alike s A l in
-    (and_same (stands s A) _ (sees s A a) _ e (λ h. same_sees s A a (k h)),
-    λ h. let both = and_both (stands s A) (sees s A a) h in let small = stands_below s A a (k both.0).1 both.1 in (ap (λ x. x ∷ []) (at_byte A a ∙ same_byte (slice_index A a) small), (small, tt)))
+    let (e, k) = seen_alike s A l in (
+      and_same (stands s A) _ (sees s A a) _ e (λ h. same_sees s A a (k h)),
+      λ h. let both = and_both (stands s A) (sees s A a) h in let small = stands_below s A a (k both.0).1 both.1 in (ap (λ x. x ∷ []) (at_byte A a ∙ same_byte (slice_index A a) small), (small, tt)),
+    )
 seen_alike (filtered p a s) A l =
     let (e, k) = seen_alike s A l in
     (and_same (stands s A) _ (sees s A a) _ e (λ h. same_sees s A a (k h)), λ h. k (and_both (stands s A) (sees s A a) h).0)
@@ -139,9 +141,10 @@ seen_alike (left_join a b s t) A l =
 seen_alike (in_sub a s t) A l =
     let ls = below_append 255 (leaves_of s) (leaves_of t) l in
     let (e, k) = seen_alike s A ls.0 in
-    let (f, m) = seen_alike t A ls.1 in
-    (and_same (stands s A && stands t A) _ (sees s A a) _ (and_same (stands s A) _ (stands t A) _ e (λ h. f)) (λ h. same_sees s A a (k (and_both (stands s A) (stands t A) h).0)),
-    λ h. k (and_both (stands s A) (stands t A) (and_both (stands s A && stands t A) (sees s A a) h).0).0)
+    let (f, m) = seen_alike t A ls.1 in (
+      and_same (stands s A && stands t A) _ (sees s A a) _ (and_same (stands s A) _ (stands t A) _ e (λ h. f)) (λ h. same_sees s A a (k (and_both (stands s A) (stands t A) h).0)),
+      λ h. k (and_both (stands s A) (stands t A) (and_both (stands s A && stands t A) (sees s A a) h).0).0,
+    )
 seen_alike (dedup s) A l = seen_alike s A l
 
 -- ---- pairs
@@ -211,22 +214,31 @@ anchored_below (inner_join a b s t) A l h =
     let ls = below_append 255 (leaves_of s) (leaves_of t) l in
     let h1 = and_both ((stands s A && stands t A) && sees s A a) (sees t A b) h in
     let h2 = and_both (stands s A && stands t A) (sees s A a) h1.0 in
-    let h3 = and_both (stands s A) (stands t A) h2.0 in
-    (stands_below s A a ((seen_alike s A ls.0).1 h3.0).1 h2.1, (stands_below t A b ((seen_alike t A ls.1).1 h3.1).1 h1.1,
-    subst (EachBelow 255) (sym (map-append (slice_index A) (lists_of s) (lists_of t))) (append_below 255 _ _ (anchored_below s A ls.0 h3.0) (anchored_below t A ls.1 h3.1))))
+    let h3 = and_both (stands s A) (stands t A) h2.0 in (
+      stands_below s A a ((seen_alike s A ls.0).1 h3.0).1 h2.1,
+      (
+        stands_below t A b ((seen_alike t A ls.1).1 h3.1).1 h1.1,
+        subst (EachBelow 255) (sym (map-append (slice_index A) (lists_of s) (lists_of t))) (append_below 255 _ _ (anchored_below s A ls.0 h3.0) (anchored_below t A ls.1 h3.1)),
+      ),
+    )
 anchored_below (left_join a b s t) A l h =
     let ls = below_append 255 (leaves_of s) (leaves_of t) l in
     let h1 = and_both ((stands s A && stands t A) && sees s A a) (sees t A b) h in
     let h2 = and_both (stands s A && stands t A) (sees s A a) h1.0 in
-    let h3 = and_both (stands s A) (stands t A) h2.0 in
-    (stands_below s A a ((seen_alike s A ls.0).1 h3.0).1 h2.1, (stands_below t A b ((seen_alike t A ls.1).1 h3.1).1 h1.1,
-    subst (EachBelow 255) (sym (map-append (slice_index A) (lists_of s) (lists_of t))) (append_below 255 _ _ (anchored_below s A ls.0 h3.0) (anchored_below t A ls.1 h3.1))))
+    let h3 = and_both (stands s A) (stands t A) h2.0 in (
+      stands_below s A a ((seen_alike s A ls.0).1 h3.0).1 h2.1,
+      (
+        stands_below t A b ((seen_alike t A ls.1).1 h3.1).1 h1.1,
+        subst (EachBelow 255) (sym (map-append (slice_index A) (lists_of s) (lists_of t))) (append_below 255 _ _ (anchored_below s A ls.0 h3.0) (anchored_below t A ls.1 h3.1)),
+      ),
+    )
 anchored_below (in_sub a s t) A l h =
     let ls = below_append 255 (leaves_of s) (leaves_of t) l in
     let h2 = and_both (stands s A && stands t A) (sees s A a) h in
-    let h3 = and_both (stands s A) (stands t A) h2.0 in
-    (stands_below s A a ((seen_alike s A ls.0).1 h3.0).1 h2.1,
-    subst (EachBelow 255) (sym (map-append (slice_index A) (lists_of s) (lists_of t))) (append_below 255 _ _ (anchored_below s A ls.0 h3.0) (anchored_below t A ls.1 h3.1)))
+    let h3 = and_both (stands s A) (stands t A) h2.0 in (
+      stands_below s A a ((seen_alike s A ls.0).1 h3.0).1 h2.1,
+      subst (EachBelow 255) (sym (map-append (slice_index A) (lists_of s) (lists_of t))) (append_below 255 _ _ (anchored_below s A ls.0 h3.0) (anchored_below t A ls.1 h3.1)),
+    )
 anchored_below (dedup s) A l h = anchored_below s A l h
 
 by_number : (m k : ℕ) (xs A : List ℕ) → counts_up k xs ≡ true → length A ≡ k + length xs → EachBelow m (map (slice_index A) xs) → EachBelow m (drop k A)
@@ -259,9 +271,11 @@ made_pair r pair source dest anchors none =
     let sizes = lawful_sizes p lawful in
     let is_source = source ∙ source_bytes p lawful.symbols sizes.0 sizes.1 in
     let is_dest = dest ∙ dest_bytes p lawful.symbols sizes.0 sizes.1 in
-    let are_anchors = anchors ∙ anchor_bytes p lawful sizes.0 sizes.1 in
-    (lawful, ap (λ s. record { source = s; dest = tree_of pair.dest; anchors = pair.anchors }) is_source
-    ∙ ap (λ d. record { source = p.source; dest = d; anchors = pair.anchors }) is_dest ∙ ap (λ a. record { source = p.source; dest = p.dest; anchors = a }) are_anchors)
+    let are_anchors = anchors ∙ anchor_bytes p lawful sizes.0 sizes.1 in (
+      lawful,
+      ap (λ s. record { source = s; dest = tree_of pair.dest; anchors = pair.anchors }) is_source
+          ∙ ap (λ d. record { source = p.source; dest = d; anchors = pair.anchors }) is_dest ∙ ap (λ a. record { source = p.source; dest = p.dest; anchors = a }) are_anchors,
+    )
 
 pub same_fault : (r : RuleText) (pair : Pair) → tree_of pair.source ≡ in_bytes (tree_of_text r.source) → tree_of pair.dest ≡ in_bytes (tree_of_text r.dest) → pair.anchors ≡ map in_byte (anchors_of r.source) →
     has_lawful_symbols (pair_of_text r) ≡ true → size_of (tree_of_text r.source) ≤ 4 → size_of (tree_of_text r.dest) ≤ 4 →

@@ -1,5 +1,5 @@
 -- The pair that a rule's line states, with numbers of any size.
-use Rattle.std.specs.Prelude.{◌≡◌, ℕ, min, map, List, [], ◌∷◌, ◌++◌, Some, None, Result, Ok, Err}
+use Rattle.std.specs.Prelude.{◌≡◌, ℕ, min, List, [], ◌++◌, Some, Result, Ok, Err}
 use Rattle.std.specs.Option.{option_to_list}
 use Rattle.wt_symbol.specs.declared.side.Pair.{Pair}
 use Rattle.wt_symbol.specs.declared.fault.PairFault.{PairFault}

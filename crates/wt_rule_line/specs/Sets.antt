@@ -1,5 +1,5 @@
 -- The set of atoms that a rule's line states.
-use Rattle.std.specs.Prelude.{◌≡◌, ℕ, zero, suc, ◌*◌, ◌/◌, ◌%◌, ◌^◌, ◌<◌, ◌==◌, List, [], ◌∷◌, map, length, Result, Ok, Err, if◌then◌else◌}
+use Rattle.std.specs.Prelude.{◌≡◌, ℕ, ◌/◌, ◌%◌, ◌^◌, ◌<◌, ◌==◌, List, [], ◌∷◌, map, length, Result, Ok, Err, if◌then◌else◌}
 use Rattle.wt_bag.specs.Bags.{Each}
 use Rattle.wt_bag.specs.Choices.{Has}
 use Rattle.wt_symbol.specs.Sides.{PairTree}
@@ -11,7 +11,6 @@ use Rattle.wt_constraint.specs.Atoms.{atoms_of_pair}
 use Rattle.wt_rule.specs.Texts.{chosen}
 use Rattle.wt_rule_text.specs.declared.parsed.ParsedAtom.{ParsedAtom}
 use Rattle.wt_rule_text.specs.declared.parsed.ParsedAtom.TheVariants.{RelEq, AttrsEq, PredEq, Unique, NotNull, RefAttrs}
-use Rattle.wt_rule_line.specs.declared.fault.RuleFault.{RuleFault}
 use Rattle.wt_rule_line.specs.declared.fault.RuleFault.TheVariants as faults
 use Rattle.wt_rule_line.specs.declared.fault.RuleLineError.{RuleLineError}
 use Rattle.wt_rule_line.specs.declared.fault.RuleLineError.TheVariants.{Fault, Memory}

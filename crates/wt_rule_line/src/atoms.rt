@@ -105,7 +105,11 @@ fn number_of(all: &[ParsedAtom], atoms: &[ParsedAtom]) -> Option<u64>
 }
 
 /// The set whose atoms these are in their order.
-pub(crate) fn set_of(alloc: Global, pair: &Pair, atoms: &[ParsedAtom]) -> Result<AtomSet, RuleLineError>
+pub(crate) fn set_of(
+    alloc: Global,
+    pair: &Pair,
+    atoms: &[ParsedAtom],
+) -> Result<AtomSet, RuleLineError>
     requires lawful { IsLawful (pair_of pair.now) }
     ensures { FindsSet (pair_of pair.now) atoms.now result }
 {

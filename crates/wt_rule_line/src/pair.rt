@@ -4,7 +4,6 @@ ghost use Rattle.wt_symbol.specs.Sides.{tree_of, pair_of, size_of};
 ghost use Rattle.wt_symbol.specs.Lawful.{IsLawful, has_lawful_symbols};
 ghost use Rattle.wt_rule_text.specs.Trees.{side_of, rule_of};
 ghost use Rattle.wt_rule_line.specs.Pairs.{tree_of_text, anchors_of, pair_of_text, in_byte, in_bytes, MakesPair};
-
 ghost use Rattle.wt_rule_line.specs.Pairs as spec;
 ghost use Rattle.wt_symbol.specs.Lawful.{fault_of};
 
@@ -107,7 +106,11 @@ fn fault_name(fault: PairFault) -> RuleFault
 }
 
 /// The first fault of a rule's pair.
-fn pair_fault_of(alloc: Global, rule: &ParsedRule, pair: &Pair) -> Result<Option<PairFault>, AllocError>
+fn pair_fault_of(
+    alloc: Global,
+    rule: &ParsedRule,
+    pair: &Pair,
+) -> Result<Option<PairFault>, AllocError>
     requires source { tree_of pair.now.source ≡ in_bytes (tree_of_text (side_of rule.now.source)) }
     requires dest { tree_of pair.now.dest ≡ in_bytes (tree_of_text (side_of rule.now.dest)) }
     requires anchors { pair.now.anchors ≡ map in_byte (anchors_of (side_of rule.now.source)) }

@@ -63,7 +63,9 @@ fn push_preds(side: &ParsedSide, preds: &mut Vec<u64>) -> Result<(), AllocError>
             preds.push(*p)?;
             push_preds(s, preds)
         }
-        ParsedSide::One(Unary::Proj(_), s) | ParsedSide::One(Unary::Dedup, s) => push_preds(s, preds),
+        ParsedSide::One(Unary::Proj(_), s) | ParsedSide::One(Unary::Dedup, s) => push_preds(
+            s, preds,
+        ),
         ParsedSide::Two(Binary::InnerJoin(_, _), s, t)
         | ParsedSide::Two(Binary::LeftJoin(_, _), s, t)
         | ParsedSide::Two(Binary::InSub(_), s, t) => {

@@ -1,4 +1,4 @@
-use Rattle.std.proofs.Common.{◌≡◌, ℕ, ◌-◌, length, take, drop, None, get_or, subst, sym, rules, arith}
+use Rattle.std.proofs.Common.{◌≡◌, ℕ, subst, sym}
 use Rattle.std.specs.Prelude.{MatchOption}
 use Rattle.wt_rule_line.specs.Sets.{picked}
 use Rattle.wt_rule_line.proofs.Picked.{took_none_at}

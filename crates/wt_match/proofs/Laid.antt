@@ -1,10 +1,10 @@
 -- The sides of a lawful pair are laid out so that a list's numbers come from its anchor exactly where they have places.
-use Rattle.std.proofs.Common.{◌≡◌, ◌≢◌, ℕ, suc, ◌<◌, ◌≤◌, Bool, true, false, List, [], ◌∷◌, ◌++◌, length, refl, sym, ap, ◌∙◌, subst, inl, inr, arith}
+use Rattle.std.proofs.Common.{◌≡◌, ◌≢◌, ℕ, suc, ◌<◌, ◌≤◌, Bool, true, List, [], ◌∷◌, ◌++◌, length, refl, sym, subst, inl, inr, arith}
 use Rattle.std.specs.Prelude.{◌==◌, ◌&&◌}
 use Rattle.wt_bag.specs.Bags.{Each}
 use Rattle.wt_bag.specs.Choices.{Apart, Has}
 use Rattle.wt_bag.proofs.EachLaws.{each_implies}
-use Rattle.wt_bag.proofs.HasLaws.{has_list_any, has_left}
+use Rattle.wt_bag.proofs.HasLaws.{has_list_any}
 use Rattle.wt_bag.proofs.UniqueLists.{each_has}
 use Rattle.wt_symbol.specs.Sides as sides
 use Rattle.wt_symbol.specs.Sides.{SideTree, PairTree, leaves_of}

@@ -1,12 +1,12 @@
 -- A match is what the walk finds, where it passes the tests; and each match is what the walk finds.
-use Rattle.std.proofs.Common.{◌≡◌, ℕ, ◌<◌, true, List, [], map, length, refl, sym, ap, ◌∙◌, subst, arith}
-use Rattle.std.specs.Prelude.{◌==◌, ◌&&◌, slice_get, Some}
+use Rattle.std.proofs.Common.{◌≡◌, ℕ, ◌<◌, List, [], map, sym, ap, ◌∙◌, subst, arith}
+use Rattle.std.specs.Prelude.{slice_get, Some}
 use Rattle.wt_bag.specs.Bags.{Each}
 use Rattle.wt_bag.proofs.EachLaws.{each_append, each_map}
 use Rattle.wt_pred.specs.Tree.{PredTree, all_of, no_preds}
 use Rattle.wt_symbol.specs.Sides as sides
 use Rattle.wt_symbol.specs.Sides.{SideTree, PairTree, leaves_of, lists_of, preds_of}
-use Rattle.wt_symbol.specs.Lawful.{stands, IsLawful}
+use Rattle.wt_symbol.specs.Lawful.{IsLawful}
 use Rattle.wt_symbol.proofs.SymbolLemmas.{source_leaves, source_lists, source_preds, lawful_stands}
 use Rattle.wt_constraint.specs.declared.atom.Atom.{Atom}
 use Rattle.wt_constraint.specs.declared.set.AtomSet.{AtomSet}
@@ -19,12 +19,12 @@ use Rattle.wt_plan.specs.Measures.{width, node_count}
 use Rattle.wt_plan.specs.WellFormed.{Narrow, PlacesFit}
 use Rattle.wt_plan.specs.Regular.{Regular}
 use Rattle.wt_plan.proofs.Upto.{length_map}
-use Rattle.wt_matching.specs.Filling.{Assigned, leaf_plan, list_of, pred_of, fill}
+use Rattle.wt_matching.specs.Filling.{Assigned, leaf_plan, fill}
 use Rattle.wt_matching.specs.Nodes.{at, put}
 use Rattle.wt_matching.specs.Matching.{AtomKnown, HasEach, IsMatch}
-use Rattle.wt_matching.specs.Finding.{Found, found, just, Reads, ArePlaced}
+use Rattle.wt_matching.specs.Finding.{Found, found, just, Reads}
 use Rattle.wt_matching.proofs.FindLaws.{Finds, finds}
-use Rattle.wt_matching.proofs.FoundLaws.{Made, Exact, made}
+use Rattle.wt_matching.proofs.FoundLaws.{Exact, made}
 use Rattle.wt_matching.proofs.Closing.{counted}
 use Rattle.wt_matching.proofs.Premises.{source_covered, dest_covered, are_placed}
 use Rattle.wt_matching.proofs.Subplans.{places_put}
@@ -105,12 +105,11 @@ module _ (p : PairTree) (lawful : IsLawful p) where
 
     pub match_found : (m : Assigned) → IsMatch S p set plan n m → (x : Found) × (found p.source p.anchors (at plan n) ≡ just x) × (m ≡ given x)
     match_found m h =
-        let seen = match_seen m h in
-        (
+        let seen = match_seen m h in (
           seen.seen,
           ap (found p.source p.anchors) (sym h.source) ∙ seen.found,
           all_parts m (given seen.seen)
-          (sym (counted m.leaves (plans.table 0 0) 0 (leaves_of p.source) (source_leaves p lawful.symbols) (omega (arith, h.each.leaves))) ∙ sym seen.reads.leaves)
-          (sym (counted m.lists [] 0 (lists_of p.source) (source_lists p lawful.symbols) (omega (arith, h.each.lists))) ∙ sym seen.reads.lists)
-          (sym (counted m.preds (all_of no_preds) 0 (preds_of p.source) (source_preds p lawful.symbols) (omega (arith, h.each.preds))) ∙ sym seen.reads.preds),
+              (sym (counted m.leaves (plans.table 0 0) 0 (leaves_of p.source) (source_leaves p lawful.symbols) (omega (arith, h.each.leaves))) ∙ sym seen.reads.leaves)
+              (sym (counted m.lists [] 0 (lists_of p.source) (source_lists p lawful.symbols) (omega (arith, h.each.lists))) ∙ sym seen.reads.lists)
+              (sym (counted m.preds (all_of no_preds) 0 (preds_of p.source) (source_preds p lawful.symbols) (omega (arith, h.each.preds))) ∙ sym seen.reads.preds),
         )

@@ -1,5 +1,5 @@
 -- The order in which a rule's atoms are asked for: those first whose test costs least.
-use Rattle.std.specs.Prelude.{ℕ, ◌==◌, List, [], ◌++◌, filter}
+use Rattle.std.specs.Prelude.{ℕ, ◌==◌, List, ◌++◌, filter}
 use Rattle.wt_symbol.specs.Sides.{PairTree}
 use Rattle.wt_constraint.specs.declared.atom.Atom.{Atom}
 use Rattle.wt_constraint.specs.declared.atom.Atom.TheVariants.{RelEq, AttrsEq, PredEq, Unique, NotNull, RefAttrs}

@@ -1,5 +1,5 @@
 //! Applying what was found at a node, where it is a match.
-ghost use Rattle.std.specs.Prelude.{◌≡◌, ◌<◌, ℕ, IfOk, IfSome, IfNone};
+ghost use Rattle.std.specs.Prelude.{◌≡◌, ◌<◌, IfOk, IfSome, IfNone};
 ghost use Rattle.wt_symbol.specs.Sides.{tree_of, pair_of};
 ghost use Rattle.wt_symbol.specs.Lawful.{IsLawful};
 ghost use Rattle.wt_plan.specs.Tree.{plan_tree};
@@ -59,11 +59,13 @@ pub fn applied<F: Facts>(
     if !are_known(alloc, facts, &rule.pair.anchors, found, atoms)? {
         return Ok(None);
     }
-    let Some(filled) = fill(alloc, &rule.pair.dest, &rule.pair.anchors, found)? else {
-        return Ok(None);
-    };
-    let made = put_at(alloc, plan, node, filled.plan)?;
-    Ok(if_regular(facts, plan, made))
+    match fill(alloc, &rule.pair.dest, &rule.pair.anchors, found)? {
+        Some(filled) => {
+            let made = put_at(alloc, plan, node, filled.plan)?;
+            Ok(if_regular(facts, plan, made))
+        }
+        None => Ok(None),
+    }
 }
 
 /// The plan with the rule's destination in the place of its match at a node, and None exactly where it has none there. The subplan at

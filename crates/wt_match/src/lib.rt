@@ -3,8 +3,6 @@
 
 mod applying;
 mod asking;
-mod kept;
 
 pub use applying::{applied, made_at};
 pub use asking::asked_atoms;
-pub use kept::{Match, match_at};

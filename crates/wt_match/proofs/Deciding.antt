@@ -1,6 +1,6 @@
 -- What was found is a match where each test passes, and where one fails it is none.
-use Rattle.std.proofs.Common.{◌≡◌, ℕ, ◌<◌, List, sym, ap, ◌∙◌, subst}
-use Rattle.std.specs.Prelude.{Result, Ok, Err, Option, Some, None, IfOk, IfSome, IfNone}
+use Rattle.std.proofs.Common.{◌≡◌, ℕ, ◌<◌, Bool, true, false, List, sym, ap, ◌∙◌, subst}
+use Rattle.std.specs.Prelude.{Result, Ok, Err, Option, Some, None, IfOk, IfSome, IfNone, IsTrue}
 use Rattle.wt_bag.specs.Bags.{Each}
 use Rattle.wt_symbol.specs.Sides.{PairTree}
 use Rattle.wt_symbol.specs.Lawful.{IsLawful}
@@ -13,7 +13,7 @@ use Rattle.wt_plan.specs.Regular.{Regular}
 use Rattle.wt_matching.specs.Filling.{Assigned, fill}
 use Rattle.wt_matching.specs.Nodes.{at, put}
 use Rattle.wt_matching.specs.Matching.{AtomKnown, IsMatch}
-use Rattle.wt_matching.specs.Finding.{Maybe, Found, found, nothing, just}
+use Rattle.wt_matching.specs.Finding.{Found, found, nothing, just}
 use Rattle.wt_matching.proofs.FindLaws.{just_same}
 use Rattle.wt_matching.proofs.Subplans.{places_put}
 use Rattle.wt_fill.specs.Small.{Filled, fill_small}
@@ -82,3 +82,11 @@ some_both P Q R None h k f = tt
 pub none_then : {X : Type 0} (P Q : Type 0) (o : Option X) → IfNone o P → (P → Q) → IfNone o Q
 none_then P Q None h f = f h
 none_then P Q (Some x) h f = tt
+
+pub some_then : {X : Type 0} (P Q : X → Type 0) (o : Option X) → IfSome o P → ((x : X) → P x → Q x) → IfSome o Q
+some_then P Q (Some x) h f = f x h
+some_then P Q None h f = tt
+
+pub not_true : (b : Bool) → b ≡ false → IsTrue b → ⊥
+not_true true e h = cc
+not_true false e h = cc

@@ -1,0 +1,4 @@
+pub mod Placing
+pub mod Knowing
+pub mod NarrowNodes
+pub mod SmallLaws

@@ -1,0 +1,12 @@
+//! Filling in a side with what was found, putting a plan at a node of another, and testing what a rule asks of what was found.
+#![tactic(auto)]
+
+mod atoms;
+mod filling;
+mod nodes;
+mod same;
+
+pub use atoms::{are_known, is_known};
+pub use filling::{Filled, fill};
+pub use nodes::{plan_at, put_at};
+pub use same::is_same;

@@ -1,0 +1,4 @@
+pub mod Laid
+pub mod Matches
+pub mod Asked
+pub mod Deciding

@@ -1,0 +1,8 @@
+//! Matches of a rule at the nodes of a plan, and applying them.
+#![tactic(auto)]
+
+mod applying;
+mod asking;
+
+pub use applying::{applied, made_at};
+pub use asking::asked_atoms;

@@ -1,0 +1,75 @@
+-- Matches at one node and at the nodes of a subplan, put together.
+use Rattle.std.proofs.Common.{◌≡◌, ℕ, suc, ◌+◌, ◌-◌, ◌<◌, ◌≤◌, List, sym, ap, ◌∙◌, subst, inl, inr, arith}
+use Rattle.std.specs.Prelude.{◌⊎◌, slice_get, Some}
+use Rattle.std.proofs.lemmas.Bool.{cases_lt}
+use Rattle.wt_schema.specs.declared.schema.Table.{Table}
+use Rattle.wt_rule.specs.declared.Rule.{Rule}
+use Rattle.wt_plan.specs.Tree.{PlanTree}
+use Rattle.wt_plan.specs.Measures.{node_count}
+use Rattle.wt_matching.specs.Filling.{Assigned}
+use Rattle.wt_chains.specs.declared.applied.Applied.{Applied}
+use Rattle.wt_chains.specs.Chains.{IsStep, ComesBefore, HasNoMatch}
+use Rattle.wt_rewrite.specs.declared.first.Hit.{Hit}
+use Rattle.wt_rewrite.specs.Search.{step_of, IsHit, HasNoneAt, HasNoneIn, IsFirstIn, IsFirstHit}
+
+module _ (S : List Table) (rules : List Rule) (plan : PlanTree) where
+  -- at this node or behind it
+  here_or_behind : (n k : ℕ) → n ≤ k → (k ≡ n) ⊎ (n + 1 ≤ k)
+  here_or_behind n k h = elim (cases_lt n k) [ inl lt ↦ inr (omega (arith, lt)) | inr ge ↦ inl (omega (arith, h, ge)) ]
+
+  at_one : (node : ℕ) (step : Applied) (m : Assigned) → step.node ≡ node → HasNoneAt S rules plan node → IsStep S rules plan step m → ⊥
+  at_one node step m e h is = h.none step.rule m (subst (λ n. IsStep S rules plan (step_of n step.rule) m) e is)
+
+  pub none_here : (node count : ℕ) → HasNoneAt S rules plan node → HasNoneIn S rules plan (node + 1) count → HasNoneIn S rules plan node (1 + count)
+  none_here node count h k = record { none = λ step m from to is. elim (here_or_behind node step.node from) [
+    | inl e ↦ at_one node step m e h is
+    | inr behind ↦ k.none step m behind (omega (arith, to)) is
+  ] }
+
+  pub none_alone : (node : ℕ) → HasNoneAt S rules plan node → HasNoneIn S rules plan node 1
+  none_alone node h = record { none = λ step m from to is. at_one node step m (omega (arith, from, to)) h is }
+
+  pub none_both : (node left right : ℕ) → HasNoneAt S rules plan node → HasNoneIn S rules plan (node + 1) left → HasNoneIn S rules plan ((node + 1) + left) right → HasNoneIn S rules plan node (1 + (left + right))
+  none_both node left right h f g = none_here node (left + right) h (record { none = λ step m from to is. elim (cases_lt step.node ((node + 1) + left)) [
+    | inl lt ↦ f.none step m from lt is
+    | inr ge ↦ g.none step m ge (omega (arith, to)) is
+  ] })
+
+  pub first_here : (node : ℕ) (h : Hit) → HasNoneAt S rules plan node → IsFirstIn S rules plan (node + 1) h → IsFirstIn S rules plan node h
+  first_here node h k f = record { hit = f.hit; first = λ other m from before is. elim (here_or_behind node other.node from) [
+    | inl e ↦ at_one node other m e k is
+    | inr behind ↦ f.first other m behind before is
+  ] }
+
+  pub first_behind : (node left : ℕ) (h : Hit) → HasNoneAt S rules plan node → HasNoneIn S rules plan (node + 1) left → IsFirstIn S rules plan ((node + 1) + left) h → IsFirstIn S rules plan node h
+  first_behind node left h k f g = first_here node h k (record { hit = g.hit; first = λ other m from before is. elim (cases_lt other.node ((node + 1) + left)) [
+    | inl lt ↦ f.none other m from lt is
+    | inr ge ↦ g.first other m ge before is
+  ] })
+
+  -- the first rule that matches at a node is the first match from it on
+  pub first_rule : (node : ℕ) (h : Hit) → h.node ≡ node → IsHit S rules plan h → ((k : ℕ) (m : Assigned) → k < h.rule → IsStep S rules plan (step_of node k) m → ⊥) → IsFirstIn S rules plan node h
+  first_rule node h e hit earlier = record { hit = hit; first = λ other m from before is. elim before [
+    | inl lt ↦ absurd (omega (arith, lt, from, e))
+    | inr both ↦ earlier other.rule m both.1 (subst (λ n. IsStep S rules plan (step_of n other.rule) m) (both.0 ∙ e) is)
+  ] }
+
+  pub none_at_all : HasNoneIn S rules plan 0 (node_count plan) → HasNoMatch S rules plan
+  none_at_all h = λ step m is. h.none step m (omega arith) (omega (arith, is.node)) is
+
+  pub first_of_all : (h : Hit) → IsFirstIn S rules plan 0 h → IsFirstHit S rules plan h
+  first_of_all h f = record {
+    found = f.hit.found;
+    first = record { is = f.hit.is; first = λ other m before is. f.first other m (omega arith) before is };
+    made = f.hit.made;
+  }
+
+  pub none_more : (node k : ℕ) → ((j : ℕ) (m : Assigned) → j < k → IsStep S rules plan (step_of node j) m → ⊥) → ((m : Assigned) → IsStep S rules plan (step_of node k) m → ⊥) →
+      (j : ℕ) (m : Assigned) → j < k + 1 → IsStep S rules plan (step_of node j) m → ⊥
+  none_more node k h here j m lt is = elim (cases_lt j k) [
+    | inl below ↦ h j m below is
+    | inr ge ↦ here m (subst (λ n. IsStep S rules plan (step_of node n) m) (same j k ge lt) is)
+  ]
+    where
+      same : (j k : ℕ) → k ≤ j → j < k + 1 → j ≡ k
+      same j k ge lt = omega arith

@@ -1,0 +1,13 @@
+-- A list of rules made ready for rewriting.
+use Rattle.std.specs.Prelude.{◌≡◌, ◌<◌, ◌^◌, length, map}
+use Rattle.wt_symbol.specs.Sides.{pair_of}
+use Rattle.wt_rule.specs.declared.Rule.{Rule}
+use Rattle.wt_match.specs.Asking.{asked}
+use Rattle.wt_chains.specs.Chains.{AreLawful}
+use Rattle.wt_rewrite.specs.declared.book.Book.{Book}
+
+-- the pairs of the book's rules are lawful, and the book has for each rule the atoms that it asks for
+pub record IsReady (book : Book) : Type 0 where
+  pub lawful : AreLawful book.rules
+  pub atoms : book.atoms ≡ map (λ (r : Rule). asked (pair_of r.pair) r.set) book.rules
+  pub few : length book.rules < 2 ^ 32

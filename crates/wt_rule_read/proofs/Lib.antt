@@ -1,3 +1,1 @@
-pub mod Scanning
-pub mod Giving
-pub mod Answers
+pub mod Good

@@ -1,15 +1,9 @@
-//! Rules of the bytes of a rule file, each proved again as its line is read.
+//! Rule files read with the search for proofs, and the names of their faults.
 #![tactic(auto)]
 
-mod ending;
-mod fault;
-mod head;
-mod laws;
-mod lines;
+mod name;
 mod read;
-mod rule;
 
-pub use fault::RuleError;
-pub use laws::{one_answer, rules_that_are_read_are_good};
-pub use read::read_rules;
-pub use wt_rule_line::RuleFault;
+pub use name::rules_name;
+pub use read::{read_rules, rules_that_are_read_hold};
+pub use wt_rule_file::{RuleError, RuleFault};

@@ -1,14 +1,14 @@
-use Rattle.std.proofs.Common.{refl}
-use Rattle.wt_rule_read.proofs.Giving.{book_read, rest_refused}
+use Rattle.wt_rule_read.proofs.Good.{told, told_lawful, told_sound, told_few}
 use Rattle.wt_rule_read.proofs.read.read_rules.Goals as goal
 
-pub returns-in-Ok-read_from : goal.returns-in-Ok-read_from
-returns-in-Ok-read_from g c =
-    record {
-      answer = book_read c.args.bytes.now c.first_line-line.result c.in-Ok.head c.in-Ok-read_from.rules (record { steps = c.in-Ok.head.steps; rules = c.in-Ok-read_from.rules }) refl refl
-          c.first_line-line.ensures c.in-Ok.ensures c.in-Ok-read_from.ensures;
-    }
+pub returns-clause-told : goal.returns-clause-told
+returns-clause-told c = told c.args.bytes.now c.read_rules.result c.read_rules.ensures.answer
 
-pub returns-in-Err-read_from : goal.returns-in-Err-read_from
-returns-in-Err-read_from g c =
-    record { answer = rest_refused c.args.bytes.now c.first_line-line.result c.in-Ok.head c.in-Err-read_from.error c.first_line-line.ensures c.in-Ok.ensures c.in-Err-read_from.ensures }
+pub returns-clause-lawful : goal.returns-clause-lawful
+returns-clause-lawful c = told_lawful c.args.bytes.now c.read_rules.result c.read_rules.ensures.answer
+
+pub returns-clause-sound : goal.returns-clause-sound
+returns-clause-sound c = told_sound c.args.bytes.now c.read_rules.result c.read_rules.ensures.answer
+
+pub returns-clause-few : goal.returns-clause-few
+returns-clause-few c = told_few c.args.bytes.now c.read_rules.result c.read_rules.ensures.answer

@@ -1,5 +1,0 @@
-use Rattle.wt_rule_read.proofs.Answers.{good_rules}
-use Rattle.wt_rule_read.proofs.laws.rules_that_are_read_are_good.Goals as goal
-
-pub returns : goal.returns
-returns c = good_rules

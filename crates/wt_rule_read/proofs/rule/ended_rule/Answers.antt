@@ -1,5 +1,0 @@
-use Rattle.wt_rule_read.specs.Files.{not_ended}
-use Rattle.wt_rule_read.proofs.rule.ended_rule.Goals as goal
-
-pub returns-then-not-ended : goal.returns-then-not-ended
-returns-then-not-ended g c = not_ended c.if-not-ended.true

@@ -1,5 +1,5 @@
 -- What a rule file says, line by line.
-use Rattle.std.specs.Prelude.{◌≡◌, ◌≢◌, ℕ, zero, suc, ◌+◌, ◌<◌, ◌≤◌, ◌⊎◌, ◌==◌, Bool, true, false, List, [], ◌∷◌, ◌++◌, length, codes, Result, Ok, Err, if◌then◌else◌}
+use Rattle.std.specs.Prelude.{◌≡◌, ◌≢◌, ℕ, suc, ◌<◌, ◌≤◌, ◌⊎◌, ◌==◌, Bool, true, false, List, [], ◌∷◌, ◌++◌, length, codes, map, Result, Ok, Err, if◌then◌else◌}
 use Rattle.wt_symbol.specs.Sides.{PairTree, pair_of}
 use Rattle.wt_constraint.specs.declared.set.AtomSet.{AtomSet}
 use Rattle.wt_form.specs.Under.{Provable}
@@ -11,8 +11,8 @@ use Rattle.wt_rule_text.specs.Forms.{IsNumber}
 use Rattle.wt_rule_line.specs.declared.fault.RuleFault.{RuleFault}
 use Rattle.wt_rule_line.specs.declared.fault.RuleFault.TheVariants.{Head, Syntax, TooLong, NotProved, Count}
 use Rattle.wt_rule_line.specs.Lines.{States, IsRefused}
-use Rattle.wt_rule_read.specs.declared.fault.RuleError.{RuleError}
-use Rattle.wt_rule_read.specs.declared.fault.RuleError.TheVariants.{Fault, Memory}
+use Rattle.wt_rule_file.specs.declared.fault.RuleError.{RuleError}
+use Rattle.wt_rule_file.specs.declared.fault.RuleError.TheVariants.{Fault, Memory}
 
 -- Lines.
 
@@ -93,7 +93,7 @@ pub data Give (version : Version) (steps : ℕ) : ℕ → ℕ → List Line → 
   no_end : {n count : ℕ} → Give version steps n count [] (Err (Count, n))
   -- a line is too long, or it is one rule too many
   long_line : {n count : ℕ} {l : Line} {ls : List Line} → longest_line < length l.text → Give version steps n count (l ∷ ls) (Err (TooLong, n))
-  many_rules : {n : ℕ} {l : Line} {ls : List Line} → length l.text ≤ longest_line → (Ends l.text → ⊥) → Give version steps n most_rules (l ∷ ls) (Err (TooLong, n))
+  many_rules : {n count : ℕ} {l : Line} {ls : List Line} → length l.text ≤ longest_line → (Ends l.text → ⊥) → count ≡ most_rules → Give version steps n count (l ∷ ls) (Err (TooLong, n))
   -- an end line states no number, or no LF ends it
   bad_end : {n count : ℕ} {l : Line} {ls : List Line} → length l.text ≤ longest_line → Ends l.text → ((l.ended ≡ false) ⊎ ((m : ℕ) → StatesCount m l.text → ⊥)) → Give version steps n count (l ∷ ls) (Err (Syntax, n))
   -- it states another number, or more follows
@@ -136,3 +136,12 @@ pub data AreRead (ls : List Line) : Result BookTree (RuleFault × ℕ) → Type 
 -- a rule file's answer
 abbrev pub IsAnswer : List ℕ → Result BookTree (RuleFault × ℕ) → Type 0
 IsAnswer bytes answer = AreRead (lines_of bytes) answer
+
+abbrev pub book_tree : RuleBook → BookTree
+book_tree book = record { steps = book.steps; rules = map rule_tree book.rules }
+
+-- what reading a rule file answers
+abbrev pub IsRead : List ℕ → Result RuleBook RuleError → Type 0
+IsRead bytes (Ok book) = IsAnswer bytes (Ok (book_tree book))
+IsRead bytes (Err (Fault f n)) = IsAnswer bytes (Err (f, n))
+IsRead bytes (Err Memory) = Unit {0}

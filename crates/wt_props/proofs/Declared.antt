@@ -1,6 +1,6 @@
 -- What the schema says of a column's NULLs, looked up by its place.
-use Rattle.std.proofs.Common.{◌≡◌, ℕ, zero, suc, Bool, List, [], ◌∷◌, refl, ap, ◌∙◌}
-use Rattle.std.specs.Prelude.{◌||◌, slice_get}
+use Rattle.std.proofs.Common.{◌≡◌, ℕ, zero, suc, List, [], ◌∷◌, refl, ap}
+use Rattle.std.specs.Prelude.{◌||◌}
 use Rattle.wt_schema.specs.declared.schema.Column.{Column}
 use Rattle.wt_schema.specs.declared.schema.Table.{Table}
 use Rattle.wt_plan.specs.Tree.{table}

@@ -1,5 +1,5 @@
 -- Where the columns of a join come from.
-use Rattle.std.proofs.Common.{◌≡◌, ℕ, ◌-◌, Bool, true, false, List, map, Option, Result, Ok, Err, refl, sym, ap, ◌∙◌}
+use Rattle.std.proofs.Common.{◌≡◌, ℕ, ◌-◌, Bool, true, false, List, map, Option, Result, Ok, Err, sym, ap, ◌∙◌}
 use Rattle.std.specs.Prelude.{nat_le, IfOk, if◌then◌else◌}
 use Rattle.std.specs.List.{list_all}
 use Rattle.wt_plan.specs.Tree.{PlanTree}

@@ -13,6 +13,7 @@ use wt_value::{Cols, WantOfMemory};
 /// The known facts of plans over one schema.
 #[derive(Clone, Copy)]
 pub struct Known<'a> {
+    /// The schema.
     pub schema: &'a Schema,
 }
 

@@ -1,5 +1,5 @@
 //! Whether a predicate uses the places of a list in the order of first use, and lists without repetition.
-ghost use Rattle.std.specs.Prelude.{◌≡◌, ◌<◌, ◌^◌};
+ghost use Rattle.std.specs.Prelude.{◌≡◌};
 ghost use Rattle.wt_pred.specs.Tree.{pred_tree, preds_tree};
 ghost use Rattle.wt_regularity.specs.Order as spec;
 

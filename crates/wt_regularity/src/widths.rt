@@ -1,5 +1,5 @@
 //! How wide a plan is, where each of its nodes may be as wide as it is and names places that are there.
-ghost use Rattle.std.specs.Prelude.{◌≡◌, length};
+ghost use Rattle.std.specs.Prelude.{◌≡◌};
 ghost use Rattle.wt_plan.specs.Tree.{plan_tree};
 ghost use Rattle.wt_regularity.specs.Widths as spec;
 

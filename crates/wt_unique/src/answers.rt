@@ -7,8 +7,8 @@ ghost use Rattle.wt_known.specs.Sets as facts;
 ghost use Rattle.wt_known.specs.Facts.{some_case};
 ghost use Rattle.wt_unique.specs.Answering as spec;
 
+use crate::Answers;
 use crate::sets::{all_below, is_whole};
-use crate::{Answers, Sets};
 use std::alloc::Global;
 use wt_plan::Plan;
 use wt_value::{Cols, WantOfMemory};

@@ -1,5 +1,5 @@
 //! One set of columns, and each of several.
-ghost use Rattle.std.specs.Prelude.{◌≡◌, ◌∷◌, ◌+◌, map, slice_index_or, IfOk};
+ghost use Rattle.std.specs.Prelude.{◌≡◌, ◌+◌, map, slice_index_or, IfOk};
 ghost use Rattle.wt_plan.specs.Tree.{plan_tree};
 ghost use Rattle.wt_plan.specs.Measures as measures;
 ghost use Rattle.wt_plan_widths.specs.Widths.{IsWidth};
@@ -9,7 +9,6 @@ ghost use Rattle.wt_unique.specs.Asking as spec;
 use crate::{Answers, Sets};
 use std::alloc::Global;
 use wt_plan::Plan;
-use wt_plan_widths::{behind, has_column};
 use wt_schema::Table;
 use wt_value::{Cols, WantOfMemory};
 

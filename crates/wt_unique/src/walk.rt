@@ -1,5 +1,5 @@
 //! The walk over the plan.
-ghost use Rattle.std.specs.Prelude.{◌≡◌, [], ◌∷◌, map, IfOk};
+ghost use Rattle.std.specs.Prelude.{◌≡◌, map, IfOk};
 ghost use Rattle.wt_plan.specs.Tree.{plan_tree};
 ghost use Rattle.wt_known.specs.Facts.{unique};
 ghost use Rattle.wt_unique.specs.Answering as spec;

@@ -1,4 +1,4 @@
-use Rattle.std.proofs.Common.{◌≡◌, ◌⊎◌, inl, inr, sym, ap, ◌∙◌}
+use Rattle.std.proofs.Common.{◌≡◌, inl, inr, sym, ap, ◌∙◌}
 use Rattle.wt_plan.specs.Tree.{plan_tree}
 use Rattle.wt_known.specs.Facts as facts
 use Rattle.wt_props.proofs.Joining.{joined, joined_nowhere, joined_ok}

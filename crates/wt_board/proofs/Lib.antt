@@ -1,0 +1,11 @@
+pub mod Sets
+pub mod Findings
+pub mod Runs
+pub mod Alone
+pub mod Settling
+pub mod Knowing
+pub mod Covered
+pub mod Opening
+pub mod Held
+pub mod Choosing
+pub mod Telling

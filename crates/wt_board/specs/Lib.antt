@@ -1,0 +1,10 @@
+pub mod Lots
+pub mod Knowledge
+pub mod Machine
+pub mod Counts
+pub mod Rules
+pub mod Boards
+pub mod Telling
+pub mod Covering
+pub mod Viewing
+pub mod Keeping

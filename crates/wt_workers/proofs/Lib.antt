@@ -1,0 +1,5 @@
+pub mod Desks
+pub mod Shrinking
+pub mod Tasks
+pub mod Reports
+pub mod RuleLines

@@ -1,3 +1,5 @@
 pub mod Listing
 pub mod NodeLaws
 pub mod Searching
+pub mod Choosing
+pub mod Going

@@ -1,5 +1,5 @@
 -- Nodes of a subplan are nodes of the plan.
-use Rattle.std.proofs.Common.{◌≡◌, ℕ, zero, suc, ◌+◌, ◌-◌, ◌<◌, ◌≤◌, Bool, true, false, refl, sym, ap, ◌∙◌, subst, arith}
+use Rattle.std.proofs.Common.{◌≡◌, ℕ, zero, suc, ◌+◌, ◌-◌, ◌<◌, ◌≤◌, Bool, true, false, List, refl, sym, ap, ◌∙◌, subst, arith}
 use Rattle.std.specs.Prelude.{nat_lt, if◌then◌else◌}
 use Rattle.std.proofs.lemmas.Grind.{common_steps}
 use Rattle.wt_plan.specs.Tree.{PlanTree, table, proj, filtered, inner_join, left_join, in_sub, dedup}
@@ -28,7 +28,7 @@ at_room (in_sub a p q) (suc n) h = in_one p q n (omega (arith, h)) (at_room p n)
 at_room (dedup p) (suc n) h = let ih = at_room p n (omega (arith, h)) in omega (arith, ih)
 
 -- the node of a node of two operands
-of_two : PlanTree → PlanTree → ℕ → PlanTree
+pub of_two : PlanTree → PlanTree → ℕ → PlanTree
 of_two p q n = if nat_lt n (node_count p) then at p n else at q (n - node_count p)
 
 of_two_left : (p q : PlanTree) (n : ℕ) → n < node_count p → of_two p q n ≡ at p n
@@ -123,3 +123,28 @@ two_below plan n c sub q lt e more h =
   where
     grouped : (n c : ℕ) → n + (1 + c) ≡ (n + 1) + c
     grouped n c = omega arith
+
+-- where the operands of a node of two stand
+pub two_operands : (whole p q : PlanTree) → ((n : ℕ) → at whole (suc n) ≡ of_two p q n) → (at whole 1 ≡ p) × (at whole (1 + node_count p) ≡ q)
+two_operands whole p q h = (h 0 ∙ of_two_left p q 0 (some_node p), ap (at whole) (next (node_count p)) ∙ (h (node_count p) ∙ right_at p q))
+  where
+    next : (k : ℕ) → 1 + k ≡ suc k
+    next k = omega arith
+
+abbrev pub HasTwo : PlanTree → PlanTree → PlanTree → Type 0
+HasTwo whole p q = (node_count whole ≡ 1 + (node_count p + node_count q)) × (at whole 1 ≡ p) × (at whole (1 + node_count p) ≡ q)
+
+pub inner_operands : (a b : List ℕ) (p q : PlanTree) → HasTwo (inner_join a b p q) p q
+unfolding of_two
+inner_operands a b p q = let both = two_operands (inner_join a b p q) p q (λ n. refl) in (refl, both.0, both.1)
+
+pub left_operands : (a b : List ℕ) (p q : PlanTree) → HasTwo (left_join a b p q) p q
+unfolding of_two
+left_operands a b p q = let both = two_operands (left_join a b p q) p q (λ n. refl) in (refl, both.0, both.1)
+
+pub in_operands : (a : List ℕ) (p q : PlanTree) → HasTwo (in_sub a p q) p q
+unfolding of_two
+in_operands a p q = let both = two_operands (in_sub a p q) p q (λ n. refl) in (refl, both.0, both.1)
+
+pub moved_operands : (whole p q whole' p' q' : PlanTree) → whole ≡ whole' → p ≡ p' → q ≡ q' → HasTwo whole' p' q' → HasTwo whole p q
+moved_operands whole p q whole' p' q' e f g h = subst (λ z. HasTwo z p q) (sym e) (subst (λ z. HasTwo whole' z q) (sym f) (subst (λ z. HasTwo whole' p' z) (sym g) h))

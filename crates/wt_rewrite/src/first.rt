@@ -66,7 +66,7 @@ pub enum Operands<'a> {
 }
 
 /// The operands of the plan's root.
-fn operands(plan: &Plan) -> Operands<'_>
+fn root_operands(plan: &Plan) -> Operands<'_>
     ensures { AreOperands (plan_tree plan.now) result }
 {
     match plan {
@@ -101,7 +101,7 @@ fn first_in<F: Facts>(
         Some(hit) => return Ok(Some(hit)),
         None => {}
     }
-    match operands(subplan) {
+    match root_operands(subplan) {
         Operands::Leaf => Ok(None),
         Operands::One(p) => first_in(alloc, facts, book, plan, p, node + 1),
         Operands::Two(p, q) => {

@@ -5,7 +5,6 @@ ghost use Rattle.wt_plan.specs.Regular.{Regular};
 ghost use Rattle.wt_chains.specs.Chains.{IsChain};
 ghost use Rattle.wt_rewrite.specs.Books.{IsReady};
 
-
 use crate::book::Book;
 use crate::first::first;
 use std::alloc::Global;

@@ -1,6 +1,3 @@
-pub mod Files
-pub mod LinesOf
-pub mod StatementLines
 pub mod Statuses
-pub mod QueryLaws
 pub mod RuleBags
+pub mod RulesRead

@@ -8,18 +8,11 @@ use Rattle.wt_tool.specs.declared.words.UsageRefusal.TheVariants.{Fault, NotBuil
 use Rattle.wt_discovery.specs.Discovering.{IsDiscovered}
 use Rattle.wt_outcome.specs.Inputs.{IsInput}
 use Rattle.wt_outcome.specs.Outcomes.{Outcome, Ends}
-use Rattle.wt_tool.specs.Rewriting.{rewriting}
-use Rattle.wt_tool.specs.Words.{Names, Command, Rewrite, Discover, command_of}
-
--- what the three files of `rewrite` may have given
-pub record AreInputs (told : List ℕ → Option (List ℕ)) (names : Names) (rules schema queries : Input) : Type 0 where
-  pub rules_is : IsInput (told names.rules) rules
-  pub schema_is : IsInput (told names.schema) schema
-  pub queries_is : IsInput (told names.queries) queries
-
--- some inputs that the files may have given, of which P holds
-abbrev pub WithInputs : (List ℕ → Option (List ℕ)) → Names → (Input → Input → Input → Type 0) → Type 0
-WithInputs told names P = (rules schema queries : Input) × AreInputs told names rules schema queries × P rules schema queries
+use Rattle.wt_demo.specs.Demo.{IsDemo}
+use Rattle.wt_rewriting.specs.Checking.{IsChecking}
+use Rattle.wt_rewriting.specs.Files.{WithInputs}
+use Rattle.wt_rewriting.specs.Rewriting.{IsRewriting}
+use Rattle.wt_tool.specs.Words.{Command, Check, Demo, Rewrite, Discover, command_of}
 
 -- the kind of words that are refused
 abbrev pub usage_word : UsageRefusal → List ℕ
@@ -40,7 +33,9 @@ usage fault = record { status = Some 1; text = codes "usage " ++ (usage_word fau
 
 -- the outcome of a command, for some inputs that its files may have given; one line a command
 abbrev pub CommandOutcome : (List ℕ → Option (List ℕ)) → (Outcome → Type 0) → Command → Type 0
-CommandOutcome told P (Rewrite names) = WithInputs told names (λ rules schema queries. P (rewriting names rules schema queries))
+CommandOutcome told P (Rewrite names) = WithInputs told names (λ rules schema queries. (o : Outcome) × IsRewriting names rules schema queries o × P o)
+CommandOutcome told P (Check name) = (rules : Input) × IsInput (told name) rules × (o : Outcome) × IsChecking name rules o × P o
+CommandOutcome told P (Demo first count) = (o : Outcome) × IsDemo first count o × P o
 CommandOutcome told P (Discover bounds) = (o : Outcome) × IsDiscovered bounds o × P o
 
 -- the outcome of a run: that of the words where they are refused, else that of their command

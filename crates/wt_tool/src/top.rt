@@ -2,18 +2,20 @@
 ghost use Rattle.std.specs.Prelude.{◌≡◌, ◌≢◌, ◌≤◌, ◌⊎◌, IsErr, map, string_bytes};
 ghost use Rattle.wt_io.specs.Causes.{Rose};
 ghost use Rattle.wt_tool.specs.Answers.{Answers, RunOutcome, usage};
-ghost use Rattle.wt_tool.specs.Laws.{KeepsNames, KeepsRows, PrintsItself, RulesHaveOneBag};
+ghost use Rattle.wt_lines.specs.Laws.{HasNoMatchLeft, IsOne, KeepsNames, KeepsRows, Stays};
 ghost use Rattle.wt_outcome.specs.Outcomes.{AppendsPrefix, Ends, Writes};
+ghost use Rattle.wt_tool.specs.Laws.{ForRulesRead, LowersTheCost, RulesHaveOneBag, RulesReadHold};
 ghost use Rattle.wt_tool.specs.Words.{command_of};
 
-use crate::rewriting::rewrite_files;
 use crate::words::{Command, UsageRefusal, read_words};
 use std::alloc::Global;
 use std::sync::Wait;
 use std::thread::Threads;
+use wt_demo::demo;
 use wt_discovery::discover_alone;
 use wt_io::{Gate, Sink, Store};
 use wt_outcome::put;
+use wt_rewriting::{check, rewrite_files};
 use wt_search::Search;
 use wt_words::UsageFault;
 
@@ -51,6 +53,8 @@ fn run<S: Store, K: Sink>(alloc: Global, words: &[String], store: &mut S, sink: 
 {
     match read_words(words) {
         Ok(Command::Rewrite(names)) => rewrite_files(alloc, &names, store, sink),
+        Ok(Command::Check(rules)) => check(alloc, rules, store, sink),
+        Ok(Command::Demo(first, count)) => demo(alloc, first, count, sink),
         Ok(Command::Discover(bounds)) => discover_alone(&Search {}, alloc, &bounds, sink),
         Err(refusal) => refuse_words(refusal, sink),
     }
@@ -87,15 +91,19 @@ pub fn wetune<R: Threads + Wait + Sync, S: Store, K: Sink, G: Gate + Sync>(
         (λ o. AppendsPrefix (K.written sink.old) (K.written sink.new) o.text) }
     ensures known { result ≤ 6 }
 
-    // What a rule of a written file means.
+    // What a rule of a written file means, and one of a file that is read: nothing is assumed of the files.
     ensures one_bag { RulesHaveOneBag }
+    ensures hold { RulesReadHold }
 
     // What the query that is printed has in common with its statement, on every database that satisfies the schema.
-    ensures rows { KeepsRows }
-    ensures names { KeepsNames }
+    ensures rows { ForRulesRead KeepsRows }
+    ensures names { ForRulesRead KeepsNames }
 
-    // It is accepted as well, and printed as itself.
-    ensures itself { PrintsItself }
+    // There is one. It is accepted as well, and rewritten as itself; no rule of the file has a match in it.
+    ensures one { ForRulesRead IsOne }
+    ensures itself { ForRulesRead Stays }
+    ensures least { ForRulesRead HasNoMatchLeft }
+    ensures cheaper { ForRulesRead LowersTheCost }
 {
     run(alloc, words, store, sink)
 }

@@ -4,20 +4,15 @@ ghost use Rattle.wt_tool.specs.Words as spec;
 ghost use Rattle.wt_words.specs.Commands as words_spec;
 
 use wt_pair::Bounds;
+use wt_rewriting::Names;
 use wt_words::UsageFault;
-
-/// The names of the three files of `rewrite`.
-#[derive(Clone, Copy, Debug)]
-pub(crate) struct Names<'a> {
-    pub(crate) rules: &'a str,
-    pub(crate) schema: &'a str,
-    pub(crate) queries: &'a str,
-}
 
 /// A command that is built.
 #[derive(Clone, Copy, Debug)]
 pub(crate) enum Command<'a> {
     Rewrite(Names<'a>),
+    Check(&'a str),
+    Demo(u32, u32),
     Discover(Bounds),
 }
 
@@ -46,6 +41,8 @@ fn built<'a>(command: &wt_words::Command<'a>) -> Result<Command<'a>, UsageRefusa
             schema,
             queries,
         })),
+        wt_words::Command::Check { rules } => Ok(Command::Check(rules)),
+        wt_words::Command::Demo { first, count } => Ok(Command::Demo(first, count)),
         _ => Err(UsageRefusal::NotBuilt),
     }
 }

@@ -1,6 +1,6 @@
 use Rattle.wt_tool.proofs.Statuses.{bytes_of, usage_only, usage_where, read_of, write_of, prefix_of, status_known}
-use Rattle.wt_tool.proofs.QueryLaws.{keeps_rows, keeps_names, prints_itself}
 use Rattle.wt_tool.proofs.RuleBags.{rules_have_one_bag}
+use Rattle.wt_tool.proofs.RulesRead.{read_are_one, read_hold, read_keep_names, read_keep_rows, read_leave_no_match, read_lower_the_cost, read_stay}
 use Rattle.wt_tool.proofs.top.wetune.Goals as goal
 
 pub returns-clause-bytes : goal.returns-clause-bytes
@@ -24,14 +24,26 @@ returns-clause-prefix g c = prefix_of c.run.ensures
 pub returns-clause-known : goal.returns-clause-known
 returns-clause-known g c = status_known c.run.ensures
 
-pub returns-clause-rows : goal.returns-clause-rows
-returns-clause-rows g c = keeps_rows
-
-pub returns-clause-names : goal.returns-clause-names
-returns-clause-names g c = keeps_names
-
 pub returns-clause-one_bag : goal.returns-clause-one_bag
 returns-clause-one_bag g c = rules_have_one_bag
 
+pub returns-clause-hold : goal.returns-clause-hold
+returns-clause-hold g c = read_hold
+
+pub returns-clause-rows : goal.returns-clause-rows
+returns-clause-rows g c = read_keep_rows
+
+pub returns-clause-names : goal.returns-clause-names
+returns-clause-names g c = read_keep_names
+
+pub returns-clause-one : goal.returns-clause-one
+returns-clause-one g c = read_are_one
+
 pub returns-clause-itself : goal.returns-clause-itself
-returns-clause-itself g c = prints_itself
+returns-clause-itself g c = read_stay
+
+pub returns-clause-least : goal.returns-clause-least
+returns-clause-least g c = read_leave_no_match
+
+pub returns-clause-cheaper : goal.returns-clause-cheaper
+returns-clause-cheaper g c = read_lower_the_cost

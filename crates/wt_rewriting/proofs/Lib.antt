@@ -1,0 +1,4 @@
+pub mod Files
+pub mod Lining
+pub mod Giving
+pub mod Statuses

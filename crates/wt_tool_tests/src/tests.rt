@@ -11,6 +11,15 @@ use wt_value::Bytes;
 
 const NO_RULES: &[u8] = b"wetune-rules 1 steps=8\nend 0\n";
 
+const RULES: &[u8] = b"wetune-rules 1 steps=8
+Proj<a0@r0>(LeftJoin<a1@r0,a2@r1>(r0,r1)) => Proj<a0>(r0) | Unique(r1,a2)
+LeftJoin<a0@r0,a1@r1>(r0,r1) => InnerJoin<a0,a1>(r0,r1) | NotNull(r0,a0) RefAttrs(r0,a0,r1,a1)
+Proj<a0@r0>(InnerJoin<a1@r0,a2@r1>(r0,r1)) => Proj<a0>(InSub<a1>(r0,Proj<a2>(r1))) | Unique(r1,a2)
+InSub<a0@r0>(r0,Proj<a1@r1>(r1)) => r0 | NotNull(r0,a0) RefAttrs(r0,a0,r1,a1)
+Dedup(Proj<a0@r0>(r0)) => Proj<a0>(r0) | Unique(r0,a0) NotNull(r0,a0)
+end 5
+";
+
 const SCHEMA: &[u8] = b"CREATE TABLE t (a INTEGER, b INTEGER);";
 
 const ORDERS: &[u8] = b"CREATE TABLE cust (id INTEGER PRIMARY KEY, name TEXT);
@@ -50,6 +59,7 @@ fn file(alloc: Global, name: &str, bytes: &[u8]) -> io::Result<MemFile> {
 fn store(alloc: Global, schema: &[u8], queries: &[u8], failing_read: u64) -> io::Result<MemStore> {
     let mut files = Files::new(alloc);
     files.push(file(alloc, "A", NO_RULES)?)?;
+    files.push(file(alloc, "R", RULES)?)?;
     files.push(file(alloc, "S", schema)?)?;
     files.push(file(alloc, "Q", queries)?)?;
     Ok(MemStore::new(files, 65_536, calls(alloc, failing_read)?))
@@ -168,6 +178,174 @@ fn rewrites_statements(rt: HostRuntime) -> Result<(), Fail> {
     Ok(())
 }
 
+/// Whether this statement over the orders' schema is printed so by the five rules.
+fn rewrites_by_rules<R: Threads + Wait + Sync + Abort + AllocGlobal>(
+    rt: &R,
+    schema: &[u8],
+    queries: &[u8],
+    written: &[u8],
+) -> Result<bool, Fail> {
+    answers(
+        rt,
+        &Case {
+            words: "rewrite R S Q",
+            schema,
+            queries,
+            failing_read: 0,
+            failing_write: 0,
+            status: 0,
+            written,
+        },
+    )
+}
+
+const ISSUES: &[u8] =
+    b"CREATE TABLE \"projects\" (\"id\" BIGINT PRIMARY KEY, \"archived\" INTEGER NOT NULL); CREATE TABLE \"users\" (\"id\" BIGINT PRIMARY KEY); CREATE TABLE \"issues\" (\"id\" BIGINT PRIMARY KEY, \"project_id\" BIGINT NOT NULL REFERENCES \"projects\" (\"id\") ON DELETE CASCADE, \"assignee_id\" BIGINT, \"status\" INTEGER NOT NULL, \"title\" VARCHAR(255) NOT NULL);";
+
+#[test]
+fn rewrites_statements_by_rules(rt: HostRuntime) -> Result<(), Fail> {
+    for (queries, written) in [
+        (
+            b"SELECT o.id FROM o LEFT JOIN cust ON o.c = cust.id;".as_slice(),
+            b"SELECT q0.id AS id FROM o AS q0;\n".as_slice(),
+        ),
+        (
+            b"SELECT o.id FROM o INNER JOIN cust ON o.c = cust.id;",
+            b"SELECT q0.id AS id FROM o AS q0 WHERE q0.c IN (SELECT q1.id FROM cust AS q1);\n",
+        ),
+        (
+            b"SELECT o.id FROM o INNER JOIN cust ON o.c = cust.id WHERE o.c IS NOT NULL;",
+            b"SELECT q0.id AS id FROM o AS q0 WHERE q0.c IS NOT NULL;\n",
+        ),
+        (
+            b"SELECT DISTINCT o.k FROM o;",
+            b"SELECT DISTINCT q0.k AS k FROM o AS q0;\n",
+        ),
+        (
+            b"SELECT DISTINCT o.id FROM o;",
+            b"SELECT q0.id AS id FROM o AS q0;\n",
+        ),
+        (
+            b"SELECT o.id, cust.name FROM o LEFT JOIN cust ON o.d = cust.id;",
+            b"SELECT q0.id AS id, q1.name AS name FROM o AS q0 INNER JOIN cust AS q1 ON q0.d = q1.id;\n",
+        ),
+    ] {
+        assert!(rt; rewrites_by_rules(&rt, ORDERS, queries, written)?);
+    }
+    assert!(rt;
+        rewrites_by_rules(
+            &rt,
+            ISSUES,
+            b"SELECT \"issues\".* FROM \"issues\" INNER JOIN \"projects\" ON \"projects\".\"id\" = \"issues\".\"project_id\" LEFT OUTER JOIN \"users\" ON \"users\".\"id\" = \"issues\".\"assignee_id\" WHERE \"issues\".\"status\" IN (1, 2, 5) AND \"projects\".\"archived\" = 0",
+            b"SELECT q0.id AS id, q0.project_id AS project_id, q0.assignee_id AS assignee_id, q0.status AS status, q0.title AS title FROM issues AS q0 WHERE q0.status IN (1, 2, 5) AND q0.project_id IN (SELECT q1.id FROM projects AS q1 WHERE q1.archived = 0);\n"
+        )?
+    );
+    Ok(())
+}
+
+/// Whether these words answer so over a file Q of these bytes.
+fn checks<R: Threads + Wait + Sync + Abort + AllocGlobal>(
+    rt: &R,
+    words: &str,
+    rules: &[u8],
+    status: u8,
+    written: &[u8],
+) -> Result<bool, Fail> {
+    answers(
+        rt,
+        &Case {
+            words,
+            schema: SCHEMA,
+            queries: rules,
+            failing_read: 0,
+            failing_write: 0,
+            status,
+            written,
+        },
+    )
+}
+
+#[test]
+fn proves_rules_again(rt: HostRuntime) -> Result<(), Fail> {
+    for (words, rules, status, written) in [
+        ("check R", b"".as_slice(), 0, b"ok 5\n".as_slice()),
+        ("check A", b"", 0, b"ok 0\n"),
+        ("check Q", b"", 2, b"fault Q line 1 Head\n"),
+        (
+            "check Q",
+            b"wetune-rules 1 steps=17\nend 0\n",
+            2,
+            b"fault Q line 1 Head\n",
+        ),
+        (
+            "check Q",
+            b"wetune-rules 3 steps=8\nend 0\n",
+            2,
+            b"fault Q line 1 Head\n",
+        ),
+        (
+            "check Q",
+            b"wetune-rules 1 steps=8\n",
+            2,
+            b"fault Q line 2 Count\n",
+        ),
+        (
+            "check Q",
+            b"wetune-rules 1 steps=8\nend 0",
+            2,
+            b"fault Q line 2 Syntax\n",
+        ),
+        (
+            "rewrite Q S Q",
+            b"wetune-rules 1 steps=8\nend 1\n",
+            2,
+            b"fault Q line 2 Count\n",
+        ),
+        (
+            "check Q",
+            b"wetune-rules 1 steps=8
+Proj<a0@r0>(LeftJoin<a1@r0,a2@r1>(r0,r1)) => Proj<a0>(r0) | Unique(r1,a2)
+Dedup(Proj<a0@r0>(r0)) => Proj<a0>(r0) | Unique(r0,a0)
+end 2
+",
+            2,
+            b"fault Q line 3 NotProved\n",
+        ),
+        (
+            "check Q",
+            b"wetune-rules 2 steps=8\nDedup(Dedup(r0)) => Dedup(r0) | - | 6 3\nend 1\n",
+            0,
+            b"ok 1\n",
+        ),
+        (
+            "check Q",
+            b"wetune-rules 2 steps=8\nDedup(Dedup(r0)) => Dedup(r0) | - | 6 2\nend 1\n",
+            2,
+            b"fault Q line 2 StatedWeight\n",
+        ),
+    ] {
+        assert!(rt; checks(&rt, words, rules, status, written)?, "{words}");
+    }
+    Ok(())
+}
+
+#[test]
+fn tells_what_rules_save(rt: HostRuntime) -> Result<(), Fail> {
+    for (words, written) in [
+        (
+            "demo 0 7",
+            b"queries 7 printed 6 refused 1 matches 6 cost 54 -> 34\n".as_slice(),
+        ),
+        (
+            "demo 5 3",
+            b"queries 3 printed 2 refused 1 matches 1 cost 17 -> 9\n",
+        ),
+    ] {
+        assert!(rt; says(&rt, words, 0, 0, 0, written)?, "{words}");
+    }
+    Ok(())
+}
+
 #[test]
 fn refuses_statements(rt: HostRuntime) -> Result<(), Fail> {
     assert!(rt; rewrites(&rt, ORDERS, REFUSED, 4, REFUSED_LINES)?);
@@ -221,7 +399,7 @@ fn refuses_files(rt: HostRuntime) -> Result<(), Fail> {
     ] {
         assert!(rt; rewrites(&rt, schema, QUERY, 2, written)?);
     }
-    assert!(rt; says(&rt, "rewrite Q S Q", 0, 0, 2, b"fault Q NotBuilt\n")?);
+    assert!(rt; says(&rt, "rewrite Q S Q", 0, 0, 2, b"fault Q line 1 Head\n")?);
     Ok(())
 }
 
@@ -307,8 +485,8 @@ fn refuses_words(rt: HostRuntime) -> Result<(), Fail> {
         ("find", b"usage UnknownCommand\n"),
         ("rewrite A S", b"usage WordCount\n"),
         ("rewrite A S Q more", b"usage WordCount\n"),
-        ("check A", b"usage NotBuilt\n"),
-        ("demo 0 1", b"usage NotBuilt\n"),
+        ("check", b"usage WordCount\n"),
+        ("demo 0", b"usage WordCount\n"),
         ("discover src=5 dst=1 ops=D", b"usage OutOfRange\n"),
         ("discover src=2 ops=D", b"usage MissingKey\n"),
         ("discover src=2 dst=1 ops=DD", b"usage BadOps\n"),

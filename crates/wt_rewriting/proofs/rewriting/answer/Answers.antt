@@ -3,7 +3,6 @@ use Rattle.std.proofs.Common.{subst}
 use Rattle.wt_rule_read.specs.Answers.{Tells}
 use Rattle.wt_rewriting.specs.Files.{names_of}
 use Rattle.wt_rewriting.specs.Rewriting.{IsRulesOutcome}
-use Rattle.wt_rule_read.proofs.Good.{rules_hold}
 use Rattle.wt_rewriting.proofs.Giving.{given, given_as, nothing_given, rules_read, rules_refused, rules_too_long}
 use Rattle.wt_rewriting.proofs.rewriting.answer.Goals as goal
 
@@ -13,7 +12,7 @@ returns-in_default g c =
     (rules_too_long (names_of c.args.names.now) c.args.files.now.rules c.args.files.now.schema c.args.files.now.queries c.in_default.is) c.put_line_fault.ensures
 
 pub put_book-requires : goal.put_book-requires
-put_book-requires g c = record { lawful = (rules_hold _ _ c.in-Ok.ensures.told).0; few = c.in-Ok.ensures.few }
+put_book-requires g c = record { lawful = c.in-Ok.ensures.lawful; few = c.in-Ok.ensures.few }
 
 pub returns-in-Ok : goal.returns-in-Ok
 returns-in-Ok g c =

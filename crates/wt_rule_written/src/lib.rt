@@ -1,0 +1,2 @@
+//! Rule files that are written are read as the same rules.
+#![tactic(auto)]

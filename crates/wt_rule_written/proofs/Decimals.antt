@@ -84,3 +84,6 @@ is_decimal n small =
 -- a byte is written with at most three digits
 pub byte_length : (n : ℕ) → n < 256 → length (decimal n) ≤ 3
 byte_length n small = (written n (omega arith)).short 2 (omega arith)
+
+pub short_number : (n : ℕ) → n < 2 ^ 64 → length (decimal n) ≤ 20
+short_number n small = (written n small).short 19 (omega arith)

@@ -1,3 +1,4 @@
 pub mod Decimals
 pub mod Fine
 pub mod Stated
+pub mod FilesRead

@@ -163,7 +163,7 @@ length-preds (sides.left_join a b s t) = omega (arith, length-preds s, length-pr
 length-preds (sides.in_sub a s t) = omega (arith, length-preds s, length-preds t, length-append (preds_of s) (preds_of t))
 length-preds (sides.dedup s) = omega (arith, length-preds s)
 
-weight-le : (s : SideTree) → weight_of s ≤ 7 * size_of s
+pub weight-le : (s : SideTree) → weight_of s ≤ 7 * size_of s
 weight-le (sides.input r) = omega arith
 weight-le (sides.proj a s) = omega (arith, weight-le s)
 weight-le (sides.filtered p a s) = omega (arith, weight-le s)
@@ -279,7 +279,7 @@ module _ (A : List ℕ) (below : (a : ℕ) → anchor A a < 256) where
       (each_append (SmallAtom A) (references_of s) (references_of t) (refs_small s l) (refs_small t r))
   refs_small (sides.dedup s) h = refs_small s (small_dedup s h)
 
-  all_small : (s : SideTree) → Small s → Each (SmallAtom A) (atoms_over s)
+  pub all_small : (s : SideTree) → Small s → Each (SmallAtom A) (atoms_over s)
   all_small s h =
       let P = SmallAtom A in
       each_append P _ (references_of s)

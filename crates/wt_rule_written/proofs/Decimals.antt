@@ -1,11 +1,11 @@
 -- Numbers as they are written.
-use Rattle.std.proofs.Common.{◌≡◌, ◌≢◌, ℕ, zero, suc, ◌+◌, ◌-◌, ◌*◌, ◌/◌, ◌%◌, ◌^◌, ◌<◌, ◌≤◌, min, Bool, true, false, List, [], ◌∷◌, ◌++◌, length, refl, sym, ap, ◌∙◌, arith, length-append, pow-suc}
-use Rattle.std.specs.Prelude.{◌&&◌, ◌==◌, not, nat_le}
+use Rattle.std.proofs.Common.{◌≡◌, ◌≢◌, ℕ, zero, suc, ◌+◌, ◌-◌, ◌*◌, ◌/◌, ◌%◌, ◌^◌, ◌<◌, ◌≤◌, Bool, true, false, List, [], ◌∷◌, ◌++◌, length, refl, ap, ◌∙◌, arith, length-append, pow-suc}
+use Rattle.std.specs.Prelude.{◌&&◌}
 use Rattle.std.specs.List.{list_all}
 use Rattle.std.specs.Fmt.{decimal}
 use Rattle.std.proofs.lemmas.Fmt.{decimal_by_steps}
 use Rattle.std.proofs.lemmas.Grind.{common_steps}
-use Rattle.wt_rule_text.specs.Numbers.{is_digit, is_plain, is_number, read_on, value}
+use Rattle.wt_rule_text.specs.Numbers.{is_digit, is_plain, is_number, read_on}
 use Rattle.wt_rule_text.specs.Forms.{IsNumber}
 
 -- the first digit is no zero
@@ -70,7 +70,6 @@ more_digits n ds l w =
       leads = λ some. leads_more ds (48 + n % 10) lead;
       short = λ k s. shorter n ds k l w s;
     }
-
 
 written : (n : ℕ) → n < 2 ^ 64 → Written n (decimal n)
 written n small = decimal_by_steps Written one_digit more_digits n small

@@ -1,7 +1,7 @@
 -- A rule file that is written is read as the same rules.
-use Rattle.std.proofs.Common.{◌≡◌, ◌≢◌, ℕ, zero, suc, ◌+◌, ◌*◌, ◌^◌, ◌<◌, ◌≤◌, min, Bool, true, false, List, [], ◌∷◌, ◌++◌, map, length, refl, sym, ap, subst, ◌∙◌, inl, inr, arith, length-append, append_assoc, append-nil}
-use Rattle.std.specs.Prelude.{◌⊎◌, ◌&&◌, ◌==◌, not, codes, if◌then◌else◌, Ok, Err}
-use Rattle.std.specs.List.{list_all, flat_map}
+use Rattle.std.proofs.Common.{◌≡◌, ℕ, suc, ◌+◌, ◌*◌, ◌≤◌, Bool, true, false, List, [], ◌∷◌, ◌++◌, length, refl, sym, ap, subst, ◌∙◌, arith, append_assoc}
+use Rattle.std.specs.Prelude.{◌&&◌, ◌==◌, not, codes, if◌then◌else◌, Ok}
+use Rattle.std.specs.List.{list_all}
 use Rattle.std.specs.Fmt.{decimal}
 use Rattle.wt_bag.specs.Bags.{Each}
 use Rattle.wt_symbol.specs.Sides as sides
@@ -11,10 +11,10 @@ use Rattle.wt_symbol.proofs.SymbolLemmas.{lawful_sizes}
 use Rattle.wt_constraint.specs.declared.set.AtomSet.{AtomSet}
 use Rattle.wt_constraint.specs.Atoms.{atoms_of_pair}
 use Rattle.wt_constraint.proofs.AtomLemmas.{length-atoms}
-use Rattle.wt_rule.specs.Texts.{list_text, anchored_text, side_text, atoms_text, chosen, rule_text, line_of, head_line, end_line}
+use Rattle.wt_rule.specs.Texts.{list_text, anchored_text, side_text, chosen, rule_text, line_of, end_line}
 use Rattle.wt_rule_text.specs.declared.parsed.Version.TheVariants.{Two}
 use Rattle.wt_rule_text.specs.Forms.{IsNumber}
-use Rattle.wt_rule_file.specs.Files.{Line, put_before, lines_of, longest_line, most_rules, Ends, RuleTree, BookTree, IsHead, IsProvedRule, Give, the_end, a_rule, AreRead, read, IsAnswer}
+use Rattle.wt_rule_file.specs.Files.{put_before, lines_of, Ends, RuleTree, Give, the_end, a_rule, AreRead, read, IsAnswer}
 use Rattle.wt_rule_file.specs.Good.{IsGoodWithin}
 use Rattle.wt_rule_written.specs.Written.{rule_lines, file_text}
 use Rattle.wt_rule_written.proofs.Decimals.{is_decimal, short_number}
@@ -35,7 +35,7 @@ text_fine p set lawful =
     let heavy = byte_fine (weight_of p.source) (omega (arith, weight-le p.source, sizes.0)) in
     let light = byte_fine (weight_of p.dest) (omega (arith, weight-le p.dest, sizes.1)) in
     let rule = joined _ _ (side_text (anchored_text A) p.source) _ source (joined 4 _ (codes " => ") _ (literal 4 (codes " => ") refl (omega arith)) (joined _ _ (side_text list_text p.dest) _ dest
-        (joined 3 _ (codes " | ") _ (literal 3 (codes " | ") refl (omega arith)) atoms))) in
+    (joined 3 _ (codes " | ") _ (literal 3 (codes " | ") refl (omega arith)) atoms))) in
     let weights = joined 3 _ (codes " | ") _ (literal 3 (codes " | ") refl (omega arith)) (joined 3 _ (decimal (weight_of p.source)) _ heavy (joined 1 3 (codes " ") (decimal (weight_of p.dest)) (literal 1 (codes " ") refl (omega arith)) light)) in
     wider (((37 * size_of p.source + 4) + (4 + ((37 * size_of p.dest + 4) + (3 + (30 * length (chosen set 0 (atoms_of_pair p)) + 1))))) + (3 + (3 + (1 + 3)))) 4096 _
     (omega (arith, sizes.0, sizes.1, small.1, count)) (joined _ _ (rule_text p set) _ rule weights)
@@ -101,8 +101,8 @@ given steps n count (r ∷ rules) good few =
     let fine = text_fine r.pair r.set good.0.lawful in
     let rest = rule_lines rules ++ end_line (count + length (r ∷ rules)) in
     let lines : lines_of (rule_lines (r ∷ rules) ++ end_line (count + length (r ∷ rules))) ≡ record { text = text_of r.pair r.set; ended = true } ∷ lines_of rest =
-        ap lines_of (ap (λ l. (l ++ rule_lines rules) ++ end_line (count + length (r ∷ rules))) (line_text r.pair r.set) ∙ so_on (text_of r.pair r.set) (rule_lines rules) (end_line (count + length (r ∷ rules))))
-        ∙ first_line (text_of r.pair r.set) rest fine.free in
+    ap lines_of (ap (λ l. (l ++ rule_lines rules) ++ end_line (count + length (r ∷ rules))) (line_text r.pair r.set) ∙ so_on (text_of r.pair r.set) (rule_lines rules) (end_line (count + length (r ∷ rules))))
+    ∙ first_line (text_of r.pair r.set) rest fine.free in
     let more : Give Two steps (suc n) (suc count) (lines_of rest) (Ok rules) = subst (λ k. Give Two steps (suc n) (suc count) (lines_of (rule_lines rules ++ end_line k)) (Ok rules)) number (given steps (suc n) (suc count) rules good.1 (omega arith)) in
     subst (λ l. Give Two steps n count l (Ok (r ∷ rules))) (sym lines)
     (a_rule fine.short (no_end_line r.pair r.set) (omega arith) (record { ended = refl; states = stated r.pair r.set good.0.lawful good.0.within; proved = good.0.proved }) more)

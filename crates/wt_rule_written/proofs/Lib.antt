@@ -2,3 +2,4 @@ pub mod Decimals
 pub mod Fine
 pub mod Stated
 pub mod FilesRead
+pub mod Discovered

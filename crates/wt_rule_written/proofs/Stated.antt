@@ -1,10 +1,9 @@
 -- The line of a lawful rule states it.
-use Rattle.std.proofs.Common.{◌≡◌, ◌≢◌, ℕ, zero, suc, ◌+◌, ◌*◌, ◌^◌, ◌<◌, ◌≤◌, min, Bool, true, false, List, [], ◌∷◌, ◌++◌, map, length, drop, get_or, Some, None, refl, sym, ap, subst, ◌∙◌, arith, length-append, append_assoc, append-nil}
-use Rattle.std.specs.Prelude.{◌&&◌, ◌==◌, codes, slice_index, if◌then◌else◌}
+use Rattle.std.proofs.Common.{◌≡◌, ℕ, zero, suc, ◌+◌, ◌*◌, ◌^◌, ◌<◌, ◌≤◌, min, Bool, true, false, List, [], ◌∷◌, ◌++◌, map, length, drop, Some, None, refl, sym, ap, ◌∙◌, arith, length-append, append_assoc, append-nil}
+use Rattle.std.specs.Prelude.{◌&&◌, ◌==◌, codes, slice_index}
 use Rattle.std.specs.Option.{option_to_list, option_map}
-use Rattle.std.specs.List.{list_all, flat_map}
+use Rattle.std.specs.List.{flat_map}
 use Rattle.std.specs.Fmt.{decimal}
-use Rattle.std.specs.declared.option.Option.{Option}
 use Rattle.std.proofs.lemmas.Grind.{common_steps}
 use Rattle.std.proofs.lemmas.List.{drop_all, drop_more, map-append}
 use Rattle.wt_bag.specs.Bags.{Each}
@@ -19,21 +18,19 @@ use Rattle.wt_constraint.specs.declared.atom.Kind.{Kind}
 use Rattle.wt_constraint.specs.declared.atom.Kind.TheVariants.{Leaves, Lists, Preds}
 use Rattle.wt_constraint.specs.declared.set.AtomSet.{AtomSet}
 use Rattle.wt_constraint.specs.Atoms.{equal, each_two, key_lists_of, root_list, references_of, atoms_over, atoms_of_pair}
-use Rattle.wt_constraint.proofs.AtomLemmas.{length-atoms}
 use Rattle.wt_rule.specs.Texts.{leaf_text, list_text, pred_text, anchored_text, side_text, atom_text, atoms_text, chosen, rule_text}
 use Rattle.wt_rule_text.specs.declared.parsed.Version.TheVariants.{Two}
 use Rattle.wt_rule_text.specs.declared.parsed.Listed.{Listed}
 use Rattle.wt_rule_text.specs.declared.parsed.Unary.TheVariants.{Proj, Filter, Dedup}
 use Rattle.wt_rule_text.specs.declared.parsed.Binary.TheVariants.{InnerJoin, LeftJoin, InSub}
-use Rattle.wt_rule_text.specs.declared.parsed.ParsedAtom.{ParsedAtom}
 use Rattle.wt_rule_text.specs.Trees.{SideText, input, one, two, RuleText}
-use Rattle.wt_rule_text.specs.Forms.{IsNumber, IsSymbol, IsAnchor, IsList, IsSide, IsAtom, AreMore, AreAtoms, IsStated, IsLine}
-use Rattle.wt_rule_line.specs.Pairs.{tree_of_text, anchors_of, pair_of_text, in_byte}
-use Rattle.wt_rule_line.specs.Sets.{as_written, IsSetOf}
+use Rattle.wt_rule_text.specs.Forms.{IsSymbol, IsList, IsSide, IsAtom, AreMore, AreAtoms}
+use Rattle.wt_rule_line.specs.Pairs.{tree_of_text, anchors_of, in_byte}
+use Rattle.wt_rule_line.specs.Sets.{as_written}
 use Rattle.wt_rule_line.specs.Lines.{States}
 use Rattle.wt_rule_line.proofs.Bytes.{anchor_bytes}
 use Rattle.wt_rule_written.proofs.Decimals.{is_decimal}
-use Rattle.wt_rule_written.proofs.Fine.{Fine, Small, small_proj, small_filter, small_join, small_left, small_in, small_dedup, SmallAtom, chosen_small, joined, wider, literal, byte_fine, list_fine, anchored_fine, side_fine, atoms_fine}
+use Rattle.wt_rule_written.proofs.Fine.{Small, small_proj, small_filter, small_join, small_left, small_in, small_dedup, SmallAtom, chosen_small}
 
 -- ---- symbols
 
@@ -82,21 +79,43 @@ module _ (m : Bool) (A : List ℕ) (list : ℕ → List ℕ) (each : (a : ℕ) �
       let (small, rest) = small_proj a s h in
       (codes "Proj<" ++ (list a ++ codes ">("), side_text list s, (list a, each a small, refl), is_side s rest, regroup (codes "Proj<") (list a) (codes ">(") (side_text list s ++ codes ")"))
   is_side (sides.filtered p a s) h =
-      let (first, small, rest) = small_filter p a s h in
-      (codes "Filter<" ++ (pred_text p ++ (codes "," ++ (list a ++ codes ">("))), side_text list s, (pred_text p, list a, symbol (codes "p") p first, each a small, refl), is_side s rest,
-      five (codes "Filter<") (pred_text p) (codes ",") (list a) (codes ">(") (side_text list s ++ codes ")"))
+      let (first, small, rest) = small_filter p a s h in (
+        codes "Filter<" ++ (pred_text p ++ (codes "," ++ (list a ++ codes ">("))),
+        side_text list s,
+        (pred_text p, list a, symbol (codes "p") p first, each a small, refl),
+        is_side s rest,
+        five (codes "Filter<") (pred_text p) (codes ",") (list a) (codes ">(") (side_text list s ++ codes ")"),
+      )
   is_side (sides.inner_join a b s t) h =
-      let (x, y, left, right) = small_join a b s t h in
-      (codes "InnerJoin<" ++ (list a ++ (codes "," ++ (list b ++ codes ">("))), side_text list s, side_text list t, (list a ++ (codes "," ++ (list b ++ codes ">(")), (list a, list b, each a x, each b y, refl), refl), is_side s left, is_side t right,
-      five (codes "InnerJoin<") (list a) (codes ",") (list b) (codes ">(") (side_text list s ++ (codes "," ++ (side_text list t ++ codes ")"))))
+      let (x, y, left, right) = small_join a b s t h in (
+        codes "InnerJoin<" ++ (list a ++ (codes "," ++ (list b ++ codes ">("))),
+        side_text list s,
+        side_text list t,
+        (list a ++ (codes "," ++ (list b ++ codes ">(")), (list a, list b, each a x, each b y, refl), refl),
+        is_side s left,
+        is_side t right,
+        five (codes "InnerJoin<") (list a) (codes ",") (list b) (codes ">(") (side_text list s ++ (codes "," ++ (side_text list t ++ codes ")"))),
+      )
   is_side (sides.left_join a b s t) h =
-      let (x, y, left, right) = small_join a b s t (small_left a b s t h) in
-      (codes "LeftJoin<" ++ (list a ++ (codes "," ++ (list b ++ codes ">("))), side_text list s, side_text list t, (list a ++ (codes "," ++ (list b ++ codes ">(")), (list a, list b, each a x, each b y, refl), refl), is_side s left, is_side t right,
-      five (codes "LeftJoin<") (list a) (codes ",") (list b) (codes ">(") (side_text list s ++ (codes "," ++ (side_text list t ++ codes ")"))))
+      let (x, y, left, right) = small_join a b s t (small_left a b s t h) in (
+        codes "LeftJoin<" ++ (list a ++ (codes "," ++ (list b ++ codes ">("))),
+        side_text list s,
+        side_text list t,
+        (list a ++ (codes "," ++ (list b ++ codes ">(")), (list a, list b, each a x, each b y, refl), refl),
+        is_side s left,
+        is_side t right,
+        five (codes "LeftJoin<") (list a) (codes ",") (list b) (codes ">(") (side_text list s ++ (codes "," ++ (side_text list t ++ codes ")"))),
+      )
   is_side (sides.in_sub a s t) h =
-      let (x, left, right) = small_in a s t h in
-      (codes "InSub<" ++ (list a ++ codes ">("), side_text list s, side_text list t, (list a, each a x, refl), is_side s left, is_side t right,
-      regroup (codes "InSub<") (list a) (codes ">(") (side_text list s ++ (codes "," ++ (side_text list t ++ codes ")"))))
+      let (x, left, right) = small_in a s t h in (
+        codes "InSub<" ++ (list a ++ codes ">("),
+        side_text list s,
+        side_text list t,
+        (list a, each a x, refl),
+        is_side s left,
+        is_side t right,
+        regroup (codes "InSub<") (list a) (codes ">(") (side_text list s ++ (codes "," ++ (side_text list t ++ codes ")"))),
+      )
   is_side (sides.dedup s) h = (codes "Dedup(", side_text list s, refl, is_side s (small_dedup s h), refl)
 
 tree_back : (m : Bool) (A : List ℕ) (t : SideTree) → tree_of_text (text_side m A t) ≡ t
@@ -300,11 +319,13 @@ is_atom A (AttrsEq x y) h = (list_text x, list_text y, symbol (codes "a") x h.0,
 is_atom A (PredEq x y) h = (pred_text x, pred_text y, symbol (codes "p") x h.0, symbol (codes "p") y h.1, refl)
 is_atom A (Unique a) h = (leaf_text (anchor A a), list_text a, symbol (codes "r") (anchor A a) h.1, symbol (codes "a") a h.0, refl)
 is_atom A (NotNull a) h = (leaf_text (anchor A a), list_text a, symbol (codes "r") (anchor A a) h.1, symbol (codes "a") a h.0, refl)
-is_atom A (RefAttrs a b) h =
-    (leaf_text (anchor A a) ++ (codes "," ++ list_text a), leaf_text (anchor A b) ++ (codes "," ++ list_text b),
-    (leaf_text (anchor A a), list_text a, symbol (codes "r") (anchor A a) h.1, symbol (codes "a") a h.0, refl),
-    (leaf_text (anchor A b), list_text b, symbol (codes "r") (anchor A b) h.3, symbol (codes "a") b h.2, refl),
-    eight (codes "RefAttrs(") (leaf_text (anchor A a)) (codes ",") (list_text a) (codes ",") (leaf_text (anchor A b)) (list_text b) (codes ")"))
+is_atom A (RefAttrs a b) h = (
+  leaf_text (anchor A a) ++ (codes "," ++ list_text a),
+  leaf_text (anchor A b) ++ (codes "," ++ list_text b),
+  (leaf_text (anchor A a), list_text a, symbol (codes "r") (anchor A a) h.1, symbol (codes "a") a h.0, refl),
+  (leaf_text (anchor A b), list_text b, symbol (codes "r") (anchor A b) h.3, symbol (codes "a") b h.2, refl),
+  eight (codes "RefAttrs(") (leaf_text (anchor A a)) (codes ",") (list_text a) (codes ",") (leaf_text (anchor A b)) (list_text b) (codes ")"),
+)
 
 are_more : (A : List ℕ) (xs : List Atom) → Each (SmallAtom A) xs → AreMore (map (as_written A) xs) (flat_map (λ next. codes " " ++ atom_text A next) xs)
 are_more A [] h = refl

@@ -19,7 +19,8 @@ use Rattle.wt_rule_file.specs.Good.{IsGoodWithin}
 use Rattle.wt_rule_written.specs.Written.{rule_lines, file_text}
 use Rattle.wt_rule_written.proofs.Decimals.{is_decimal, short_number}
 use Rattle.wt_rule_written.proofs.Fine.{Fine, SmallAtom, no_lf, joined, wider, literal, byte_fine, number_free, list_fine, anchored_fine, side_fine, atoms_fine, chosen_small}
-use Rattle.wt_rule_written.proofs.Stated.{text_of, stated, source_small, dest_small, anchors_small, all_small, weight-le}
+use Rattle.wt_rule_written.proofs.Smallness.{source_small, dest_small, anchors_small, all_small, weight-le}
+use Rattle.wt_rule_written.proofs.Stated.{text_of, stated}
 
 -- ---- a line
 

@@ -26,7 +26,7 @@ def measure(words, folder):
     return time.monotonic() - started, usage.ru_maxrss / 1024, os.waitstatus_to_exitcode(status)
 
 
-def first_example(folder):
-    """Puts the rules and the schema of the first example into the folder."""
+def plain_example(folder):
+    """Puts the empty rule file and the schema of one table into the folder."""
     for file in ('rules.txt', 'schema.sql'):
-        (folder / file).write_bytes((TOP / 'examples/first' / file).read_bytes())
+        (folder / file).write_bytes((TOP / 'examples/plain' / file).read_bytes())

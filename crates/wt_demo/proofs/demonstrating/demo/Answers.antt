@@ -1,0 +1,8 @@
+use Rattle.wt_demo.proofs.OneDemo.{ended_otherwise, stopped_begins}
+use Rattle.wt_demo.proofs.demonstrating.demo.Goals as goal
+
+pub returns-in-Ok-clause-begins : goal.returns-in-Ok-clause-begins
+returns-in-Ok-clause-begins g c = λ short whole is. absurd (ended_otherwise _ _ _ _ _ _ c.in-Ok.ensures short)
+
+pub returns-in-Err-clause-begins : goal.returns-in-Err-clause-begins
+returns-in-Err-clause-begins g c = λ short whole is. stopped_begins _ _ _ _ _ c.in-Err.stop c.in-Err.ensures whole is

@@ -28,7 +28,7 @@ use Rattle.wt_query_plan.specs.Building.{planned}
 use Rattle.wt_query_plan.specs.Faults.{Fault, query_fault}
 use Rattle.wt_regular.proofs.Regulars.{regular_plan}
 use Rattle.wt_rewriting.specs.Rewriting.{Gives, fault_in_line}
-use Rattle.wt_rewriting.proofs.Beginning.{Begins, prefix_of_begun, same_text}
+use Rattle.wt_rewriting.proofs.Beginning.{Begins, IsBook, prefix_of_begun, same_text}
 use Rattle.wt_rewriting.proofs.SameRules.{AreAlike, same_chain}
 use Rattle.wt_rewriting.proofs.Statuses.{Fine}
 use Rattle.wt_rule.specs.declared.Rule.{Rule}
@@ -91,8 +91,8 @@ module _ (first count : ℕ) (o w : Outcome) where
       let one : Ok (book_tree book) ≡ Ok (book_tree other) = one_answer rules_text (Ok (book_tree book)) (Ok (book_tree other)) is is' in
       let same : book_tree book ≡ book_tree other = cc in
       tables_begin book.rules other.rules (ap (λ (t : BookTree). t.rules) same) (rules_hold rules_text book is).0 schema_text (schema_of schema_text) refl h k
-  book_begins (Ok book) (Err (fault, line)) is is' h k = let never : Ok (book_tree book) ≡ Err (fault, line) = one_answer rules_text _ _ is is' in absurd (cc)
-  book_begins (Err (fault, line)) (Ok book) is is' h k = let never : Err (fault, line) ≡ Ok (book_tree book) = one_answer rules_text _ _ is is' in absurd (cc)
+  book_begins (Ok book) (Err (fault, line)) is is' h k = absurd (subst IsBook (one_answer rules_text (Ok (book_tree book)) (Err (fault, line)) is is') tt)
+  book_begins (Err (fault, line)) (Ok book) is is' h k = absurd (subst IsBook (sym (one_answer rules_text (Err (fault, line)) (Ok (book_tree book)) is is')) tt)
   book_begins (Err (fault, line)) (Err (fault', line')) is is' h k =
       let one : Err (fault, line) ≡ Err (fault', line') = one_answer rules_text (Err (fault, line)) (Err (fault', line')) is is' in
       let same : (fault, line) ≡ (fault', line') = cc in

@@ -20,12 +20,14 @@ use Rattle.wt_lines.specs.declared.line.Line.{Line}
 use Rattle.wt_lines.proofs.QueryLaws.{is_one}
 use Rattle.wt_outcome.specs.declared.input.Input.{Input}
 use Rattle.wt_outcome.specs.declared.input.Input.TheVariants.{Whole, TooLong}
+use Rattle.wt_outcome.specs.declared.stop.Stop.{Stop}
+use Rattle.wt_outcome.specs.declared.stop.Stop.TheVariants.{Read, Write, Memory}
 use Rattle.wt_outcome.specs.Outcomes.{AppendsPrefix, Outcome}
-use Rattle.wt_outcome.proofs.Putting.{prefix_more}
+use Rattle.wt_outcome.proofs.Putting.{append_known-nil, prefix_more}
 use Rattle.wt_query_plan.specs.Faults.{Fault, query_fault}
 use Rattle.wt_rewriting.specs.Checking.{IsCheckOutcome, IsChecking, IsReadOutcome, all_read}
 use Rattle.wt_rewriting.specs.Files.{Names}
-use Rattle.wt_rewriting.specs.Rewriting.{AreAll, AreFirst, IsBookOutcome, IsFileOutcome, IsQueriesOutcome, IsRewriting, IsRulesOutcome, IsSchemaOutcome, IsTablesOutcome, IsWhole, fault_in_line, lines_outcome, nothing}
+use Rattle.wt_rewriting.specs.Rewriting.{AreAll, AreFirst, Gives, IsBookOutcome, IsFileOutcome, IsQueriesOutcome, IsRewriting, IsRulesOutcome, IsSchemaOutcome, IsTablesOutcome, IsWhole, fault_in_line, lines_outcome, nothing}
 use Rattle.wt_rewriting.proofs.SameRules.{AreAlike, same_rewritten}
 use Rattle.wt_rule.specs.declared.Rule.{Rule}
 use Rattle.wt_rule.specs.declared.RuleBook.{RuleBook}
@@ -56,6 +58,11 @@ prefix_of_begun old new part whole (rest, e) h = subst (AppendsPrefix old new) (
 
 begins_behind : (own part whole : List ℕ) → Begins part whole → Begins (own ++ part) (own ++ whole)
 begins_behind own part whole (rest, e) = (rest, ap (λ t. own ++ t) e ∙ sym (append_assoc own part rest))
+
+-- an answer that is a book
+abbrev pub IsBook : Result BookTree (RuleFault × ℕ) → Type 0
+IsBook (Ok tree) = Unit {0}
+IsBook (Err fault) = ⊥
 
 -- rules with the same pairs and sets make one line of a statement
 module _ (tables : List Table) (schema : IsSchema tables) (rules other : List Rule) (alike : AreAlike rules other) (lawful : AreLawful rules) where
@@ -104,7 +111,7 @@ module _ (names : Names) where
 
       all_begin : AreAll tables rules file o → AreAll tables other file w → Begins o.text w.text
       all_begin (lines, are, is) all =
-          let firsts : AreLines tables rules file.bytes (take (length file.statements) file.statements) lines = subst (λ ss. AreLines tables rules file.bytes ss lines) (sym (take_all file.statements (length file.statements) (omega arith))) are in
+          let firsts : AreLines tables rules file.bytes (take (length file.statements) file.statements) lines = subst (λ ss. AreLines tables rules file.bytes ss lines) (sym (take_all (length file.statements) file.statements (omega arith))) are in
           let part : Outcome = record { status = None; text = lines_text lines } in
           subst (λ (x : Outcome). Begins x.text w.text) (sym is) (so part firsts all)
         where
@@ -141,8 +148,8 @@ module _ (names : Names) where
         let one : Ok (book_tree book) ≡ Ok (book_tree other) = one_answer bytes (Ok (book_tree book)) (Ok (book_tree other)) is is' in
         let same : book_tree book ≡ book_tree other = cc in
         schema_begins book.rules other.rules (ap (λ (t : BookTree). t.rules) same) (rules_hold bytes book is).0 queries o w some schema h k
-    book_begins bytes (Ok book) (Err (fault, line)) is is' h k = let never : Ok (book_tree book) ≡ Err (fault, line) = one_answer bytes _ _ is is' in absurd (cc)
-    book_begins bytes (Err (fault, line)) (Ok book) is is' h k = let never : Err (fault, line) ≡ Ok (book_tree book) = one_answer bytes _ _ is is' in absurd (cc)
+    book_begins bytes (Ok book) (Err (fault, line)) is is' h k = absurd (subst IsBook (one_answer bytes (Ok (book_tree book)) (Err (fault, line)) is is') tt)
+    book_begins bytes (Err (fault, line)) (Ok book) is is' h k = absurd (subst IsBook (sym (one_answer bytes (Err (fault, line)) (Ok (book_tree book)) is is')) tt)
     book_begins bytes (Err (fault, line)) (Err (fault', line')) is is' h k =
         let one : Err (fault, line) ≡ Err (fault', line') = one_answer bytes (Err (fault, line)) (Err (fault', line')) is is' in
         let same : (fault, line) ≡ (fault', line') = cc in
@@ -172,8 +179,8 @@ module _ (name : List ℕ) (o w : Outcome) where
           sym (length-map book.rules rule_tree) ∙ ap (λ (t : BookTree). length t.rules) same ∙ length-map other.rules rule_tree
       in
       same_text o w _ h (k ∙ ap all_read (sym many))
-  read_checked bytes (Ok book) (Err (fault, line)) is is' h k = let never : Ok (book_tree book) ≡ Err (fault, line) = one_answer bytes _ _ is is' in absurd (cc)
-  read_checked bytes (Err (fault, line)) (Ok book) is is' h k = let never : Err (fault, line) ≡ Ok (book_tree book) = one_answer bytes _ _ is is' in absurd (cc)
+  read_checked bytes (Ok book) (Err (fault, line)) is is' h k = absurd (subst IsBook (one_answer bytes (Ok (book_tree book)) (Err (fault, line)) is is') tt)
+  read_checked bytes (Err (fault, line)) (Ok book) is is' h k = absurd (subst IsBook (sym (one_answer bytes (Err (fault, line)) (Ok (book_tree book)) is is')) tt)
   read_checked bytes (Err (fault, line)) (Err (fault', line')) is is' h k =
       let one : Err (fault, line) ≡ Err (fault', line') = one_answer bytes (Err (fault, line)) (Err (fault', line')) is is' in
       let same : (fault, line) ≡ (fault', line') = cc in
@@ -189,3 +196,10 @@ module _ (name : List ℕ) (o w : Outcome) where
 
   pub prefix_of_checked : (rules : Input) → IsChecking name rules o → IsCheckOutcome name rules w → (old new : Option (List ℕ)) → AppendsPrefix old new o.text → AppendsPrefix old new w.text
   prefix_of_checked rules is whole old new h = prefix_of_begun old new o.text w.text (checking_begins rules is whole) h
+
+-- a check that stopped
+pub stopped_checked : (name : List ℕ) (input : Input) (read write : Type 0) (old new : Option (List ℕ)) (stop : Stop) → Gives (IsCheckOutcome name input) read write old new (Err stop) → (whole : Outcome) → IsCheckOutcome name input whole
+    → AppendsPrefix old new whole.text
+stopped_checked name input read write old new Read (o, is, h) whole k = (0, h.1 ∙ sym (append_known-nil old))
+stopped_checked name input read write old new Write (o, is, h) whole k = prefix_of_checked name o whole input is k old new h.1
+stopped_checked name input read write old new Memory (o, is, h) whole k = prefix_of_checked name o whole input is k old new h

@@ -4,9 +4,9 @@
   bench/engines/speed.py [PROGRAM] [--rules FILE] [--rows N] [--runs R] [--seed S] [--no-postgres]
 
 Before is what is printed without rules, after what is printed by the rules of FILE (the 438 of examples/rules). Each table has N rows that satisfy
-its schema, and its keys as indexes. The time is the least of R runs, before and after in turn: on PostgreSQL the planning and answering, no rows
-sent, on one core; on SQLite the processor time until all rows are read. It prints a table in Markdown, and says where the two answers differ. It
-needs `apt-get install postgresql sqlite3`.
+its schema, and its keys as indexes. The time is of the processor, the least of R runs, before and after in turn: on PostgreSQL until the server has
+planned and answered, no rows sent, on one core; on SQLite until all rows are read. It prints a table in Markdown, and says where the two answers
+differ. It needs `apt-get install postgresql sqlite3`.
 """
 import argparse
 import pathlib

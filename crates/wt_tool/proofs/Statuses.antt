@@ -1,23 +1,25 @@
 -- What the clause of a run says of its statuses one by one.
-use Rattle.std.proofs.Common.{◌≡◌, ◌≢◌, ℕ, ◌≤◌, List, ◌⊎◌, sym, subst, inl, inr, arith, rules}
+use Rattle.std.proofs.Common.{◌≡◌, ◌∙◌, ◌≢◌, ℕ, ◌≤◌, List, ◌⊎◌, ap, sym, subst, inl, inr, arith, rules}
+use Rattle.std.proofs.lemmas.Bool.{true≢false}
 use Rattle.std.proofs.lemmas.Result.{IfOk-from_err}
-use Rattle.std.specs.Prelude.{Ok, Err, Some, None, IsErr, MatchResult}
+use Rattle.std.specs.Prelude.{Ok, Err, Some, None, IsErr, MatchResult, is_some}
 use Rattle.std.specs.declared.option.Option.{Option}
-use Rattle.wt_tool.specs.declared.words.UsageRefusal.{UsageRefusal}
-use Rattle.wt_tool.specs.Answers.{Answers, CommandOutcome, RunOutcome, usage}
+use Rattle.wt_words.specs.declared.fault.UsageFault.{UsageFault}
+use Rattle.wt_tool.specs.Answers.{Answers, CommandOutcome, IsDiscovery, RunOutcome, usage}
 use Rattle.wt_pair.specs.declared.bounds.Bounds.{Bounds}
-use Rattle.wt_discovery.specs.Discovering.{IsDiscovered}
+use Rattle.wt_discovery.specs.Discovering.{IsDiscovered, WritesFile}
 use Rattle.wt_outcome.specs.Outcomes.{AppendsPrefix, Ends, Outcome, Writes}
-use Rattle.wt_tool.specs.Words.{Command, Check, Demo, Rewrite, Discover, command_of}
+use Rattle.wt_words.specs.Commands.{Command, check, command_of, demo, discover, rewrite}
 use Rattle.wt_demo.proofs.Statuses.{demo_fine}
 use Rattle.wt_rewriting.proofs.Statuses.{Fine, checking_fine, rewriting_fine}
+use Rattle.wt_rewriting.specs.Files.{named}
 
 -- what follows for the outcome holds of the outcome
 of_command : (told : List ℕ → Option (List ℕ)) (P Q : Outcome → Type 0) → ((o : Outcome) → P o → Q o) → (command : Command) → CommandOutcome told P command → CommandOutcome told Q command
-of_command told P Q f (Rewrite names) h = let (o, is, p) = h.4 in (h.0, h.1, h.2, h.3, (o, is, f o p))
-of_command told P Q f (Check name) h = (h.0, h.1, h.2, h.3, f h.2 h.4)
-of_command told P Q f (Demo first count) h = (h.0, h.1, f h.0 h.2)
-of_command told P Q f (Discover bounds) h = (h.0, h.1, f h.0 h.2)
+of_command told P Q f (rewrite rules schema queries) h = let (o, is, p) = h.4 in (h.0, h.1, h.2, h.3, (o, is, f o p))
+of_command told P Q f (check name) h = (h.0, h.1, h.2, h.3, f h.2 h.4)
+of_command told P Q f (demo first count) h = (h.0, h.1, f h.0 h.2)
+of_command told P Q f (discover bounds workers) h = (h.0, h.1, f h.0 h.2)
 
 of_run : (told : List ℕ → Option (List ℕ)) (words : List (List ℕ)) (P Q : Outcome → Type 0) → ((o : Outcome) → P o → Q o) → RunOutcome told words P → RunOutcome told words Q
 of_run told words P Q f h =
@@ -47,10 +49,10 @@ discovered_fine bounds o (inr part) = subst (λ x. Fine x.status) (sym part.4) t
 
 -- what follows for every outcome of a command
 any_command : (told : List ℕ → Option (List ℕ)) (P : Outcome → Type 0) (Q : Type 0) → ((o : Outcome) → Fine o.status → P o → Q) → (command : Command) → CommandOutcome told P command → Q
-any_command told P Q f (Rewrite names) h = let (o, is, p) = h.4 in f o (rewriting_fine names h.0 h.1 h.2 o is) p
-any_command told P Q f (Check name) h = f h.2 (checking_fine name h.0 h.2 h.3) h.4
-any_command told P Q f (Demo first count) h = f h.0 (demo_fine first count h.0 h.1) h.2
-any_command told P Q f (Discover bounds) h = f h.0 (discovered_fine bounds h.0 h.1) h.2
+any_command told P Q f (rewrite rules schema queries) h = let (o, is, p) = h.4 in f o (rewriting_fine (named rules schema queries) h.0 h.1 h.2 o is) p
+any_command told P Q f (check name) h = f h.2 (checking_fine name h.0 h.2 h.3) h.4
+any_command told P Q f (demo first count) h = f h.0 (demo_fine first count h.0 h.1) h.2
+any_command told P Q f (discover bounds workers) h = f h.0 (discovered_fine bounds h.0 h.1) h.2
 
 -- what follows for every outcome
 any_run : (told : List ℕ → Option (List ℕ)) (words : List (List ℕ)) (P : Outcome → Type 0) (Q : Type 0) → ((o : Outcome) → Few o.status → P o → Q) → RunOutcome told words P → Q
@@ -91,7 +93,7 @@ module _ {told : List ℕ → Option (List ℕ)} {words : List (List ℕ)} {read
         | Err fault ↦ λ k. search rules
       ] h.outcome
 
-  one_where : (fault : UsageRefusal) → Ends read write old new (usage fault) s → (s ≡ 1) ⊎ (s ≡ 3) ⊎ (s ≡ 5) ⊎ (s ≡ 6)
+  one_where : (fault : UsageFault) → Ends read write old new (usage fault) s → (s ≡ 1) ⊎ (s ≡ 3) ⊎ (s ≡ 5) ⊎ (s ≡ 6)
   one_where fault ends =
       let done : s ≢ 3 → s ≢ 5 → s ≢ 6 → 1 ≡ s = λ a b c. same_status 1 s (ends.done a b c).0 in
       grind (arith, done)
@@ -99,6 +101,18 @@ module _ {told : List ℕ → Option (List ℕ)} {words : List (List ℕ)} {read
   pub usage_where : IsErr (command_of words) → (s ≡ 1) ⊎ (s ≡ 3) ⊎ (s ≡ 5) ⊎ (s ≡ 6)
   usage_where =
       elim (command_of words) as (λ v. MatchResult v (CommandOutcome told (λ o. Ends read write old new o s)) (λ fault. Ends read write old new (usage fault) s) → IsErr v → (s ≡ 1) ⊎ (s ≡ 3) ⊎ (s ≡ 5) ⊎ (s ≡ 6)) [
-        | Ok command ↦ λ k refused. absurd (IfOk-from_err {T = Command} {E = UsageRefusal} (Ok command) (λ _. ⊥) refused)
+        | Ok command ↦ λ k refused. absurd (IfOk-from_err {T = Command} {E = UsageFault} (Ok command) (λ _. ⊥) refused)
         | Err fault ↦ λ k refused. one_where fault k
       ] h.outcome
+
+  -- no status, so no end
+  stopped : (o : Outcome) → o.status ≡ None → Writes old new o s → ⊥
+  stopped o none done = true≢false (ap is_some (sym done.0 ∙ none))
+
+  written : (bounds : Bounds) → (o : Outcome) × IsDiscovered bounds o × Writes old new o s → WritesFile bounds old new
+  written bounds (o, inl whole, done) = (o.text, whole.0, done.1)
+  written bounds (o, inr part, done) = absurd (stopped o (ap (λ (x : Outcome). x.status) part.4) done)
+
+  pub file_of : (bounds : Bounds) → IsDiscovery words bounds → s ≡ 0 → WritesFile bounds old new
+  file_of bounds (workers, is) e =
+      written bounds (subst (λ v. MatchResult v (CommandOutcome told (λ o. Writes old new o s)) (λ fault. Writes old new (usage fault) s)) is (bytes_of (λ a. omega arith) (λ a. omega arith) (λ a. omega arith)))

@@ -2,9 +2,9 @@
 #![tactic(auto)]
 
 mod top;
-mod words;
 
 pub use top::wetune;
 pub use wt_demo::demo;
 pub use wt_discovery::discover_alone;
 pub use wt_rewriting::{check, rewrite};
+pub use wt_sharing::discover;

@@ -478,6 +478,46 @@ fn discovers_rules(rt: HostRuntime) -> Result<(), Fail> {
     Ok(())
 }
 
+const PROJ_RULES: &str = "Proj<a0@r0>(Proj<a1@r0>(r0)) => Proj<a0>(r0) | - | 2 1
+Proj<a0@r0>(Proj<a1@r0>(r0)) => Proj<a1>(r0) | AttrsEq(a0,a1) | 2 1
+Proj<a0@r0>(Dedup(r0)) => Proj<a0>(r0) | Unique(r0,a0) NotNull(r0,a0) | 4 1
+Dedup(Proj<a0@r0>(r0)) => Proj<a0>(r0) | Unique(r0,a0) NotNull(r0,a0) | 4 1
+";
+
+/// The rules of these bounds, found by each of these numbers of workers.
+fn any_number_discovers<R: Threads + Wait + Sync + Abort + AllocGlobal>(
+    rt: &R,
+    bounds: &str,
+    rules: &str,
+    count: u64,
+) -> Result<bool, Fail> {
+    for workers in [1, 2, 3, 8, 64] {
+        let words = format!(in rt.alloc(); "discover {bounds} workers={workers}")?;
+        if !discovers(rt, &words, rules, "", count)? {
+            return Ok(false);
+        }
+    }
+    Ok(true)
+}
+
+#[test]
+fn any_number_of_workers_discovers_the_same(rt: HostRuntime) -> Result<(), Fail> {
+    for (bounds, rules, count) in [
+        ("src=2 dst=1 ops=D", DEDUP_RULE, 1),
+        ("src=2 dst=1 ops=F", FILTER_RULES, 4),
+        ("src=1 dst=1 ops=IL", JOIN_RULES, 4),
+        ("src=1 dst=0 ops=FD", "", 0),
+    ] {
+        assert!(rt;
+            any_number_discovers(&rt, bounds, rules, count)?,
+            "{bounds}"
+        );
+    }
+    let rules = format!(in rt.alloc(); "{PROJ_RULES}{DEDUP_RULE}")?;
+    assert!(rt; any_number_discovers(&rt, "src=2 dst=1 ops=PD", &rules, 5)?);
+    Ok(())
+}
+
 #[test]
 fn refuses_words(rt: HostRuntime) -> Result<(), Fail> {
     for (words, written) in [
@@ -490,7 +530,14 @@ fn refuses_words(rt: HostRuntime) -> Result<(), Fail> {
         ("discover src=5 dst=1 ops=D", b"usage OutOfRange\n"),
         ("discover src=2 ops=D", b"usage MissingKey\n"),
         ("discover src=2 dst=1 ops=DD", b"usage BadOps\n"),
-        ("discover src=2 dst=1 ops=D workers=2", b"usage NotBuilt\n"),
+        (
+            "discover src=2 dst=1 ops=D workers=0",
+            b"usage OutOfRange\n",
+        ),
+        (
+            "discover src=2 dst=1 ops=D workers=65",
+            b"usage OutOfRange\n",
+        ),
     ] {
         assert!(rt; says(&rt, words, 0, 0, 1, written)?, "{words}");
     }

@@ -20,10 +20,10 @@ pub data Command : Type 0 where
   demo : ℕ → ℕ → Command
 
 -- a discovery has both sizes and the operators; where the others are not written, a set may leave out all atoms, a proof has at most 8
--- steps, and there is one worker
+-- steps, and there are four workers
 abbrev pub discovery : Settings → Option ℕ → Option ℕ → Option Ops → Result Command UsageFault
 discovery s (Some src) (Some dst) (Some ops) =
-    Ok (discover (record { src = src; dst = dst; ops = ops; depth = unwrap_or s.depth 64; steps = unwrap_or s.steps 8 }) (unwrap_or s.workers 1))
+    Ok (discover (record { src = src; dst = dst; ops = ops; depth = unwrap_or s.depth 64; steps = unwrap_or s.steps 8 }) (unwrap_or s.workers 4))
 discovery s (Some src) (Some dst) None = Err MissingKey
 discovery s (Some src) None ops = Err MissingKey
 discovery s None dst ops = Err MissingKey

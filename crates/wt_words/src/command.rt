@@ -46,7 +46,7 @@ fn discovery<'a>(settings: &Settings) -> Result<Command<'a>, UsageFault>
                 depth: settings.depth.unwrap_or(64),
                 steps: settings.steps.unwrap_or(8),
             },
-            workers: settings.workers.unwrap_or(1),
+            workers: settings.workers.unwrap_or(4),
         }),
         _ => Err(UsageFault::MissingKey),
     }

@@ -127,7 +127,8 @@ fn grown<P: Prover>(
     Ok(larger)
 }
 
-/// The verdict on the task's set: a core in it where it is provable, else a set around it that is not provable either.
+/// The verdict on the task's set: a core in it where it is provable, else a set around it that is not provable either. The first
+/// set of a board is the empty one: there all atoms are asked first, since where they do not prove the pair no set does.
 pub(crate) fn decide<P: Prover>(
     prover: &P,
     alloc: Global,
@@ -140,6 +141,9 @@ pub(crate) fn decide<P: Prover>(
     ensures { IfOk result (VerdictFor (pair_of pair.now) steps task.ticket.set) }
 {
     let set = task.ticket.set;
+    if set.0 == 0 && !prover.prove(alloc, pair, task.all, steps)? {
+        return Ok(Verdict::Refused(task.all));
+    }
     if prover.prove(alloc, pair, set, steps)? {
         let core = core_in(prover, alloc, pair, steps, task.needed, set)?;
         return Ok(Verdict::Proved(core));

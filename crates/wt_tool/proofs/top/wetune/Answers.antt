@@ -1,10 +1,13 @@
-use Rattle.wt_tool.proofs.Statuses.{bytes_of, usage_only, usage_where, read_of, write_of, prefix_of, status_known}
+use Rattle.wt_tool.proofs.Statuses.{bytes_of, file_of, usage_only, usage_where, read_of, write_of, prefix_of, status_known}
 use Rattle.wt_tool.proofs.RuleBags.{rules_have_one_bag}
 use Rattle.wt_tool.proofs.RulesRead.{read_are_one, read_hold, read_keep_names, read_keep_rows, read_leave_no_match, read_lower_the_cost, read_stay}
 use Rattle.wt_tool.proofs.top.wetune.Goals as goal
 
 pub returns-clause-bytes : goal.returns-clause-bytes
 returns-clause-bytes g c = bytes_of c.run.ensures
+
+pub returns-clause-file : goal.returns-clause-file
+returns-clause-file g c = file_of c.run.ensures
 
 pub returns-clause-usage_only : goal.returns-clause-usage_only
 returns-clause-usage_only g c = usage_only c.run.ensures

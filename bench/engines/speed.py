@@ -127,7 +127,8 @@ def main():
             if not found:
                 continue
             db, tables = opened(schema.read_text())
-            Filler(db, [file.read_text() for file in files], words.rows, random.Random(words.seed)).fill(tables)
+            texts = [text for file in files for text in statements(file.read_text())]
+            Filler(db, texts, words.rows, random.Random(words.seed)).fill(tables)
             if postgres:
                 postgres.load(db, tables, keys=True)
             for name, before, after in found:

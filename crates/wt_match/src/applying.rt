@@ -56,13 +56,9 @@ pub fn applied<F: Facts>(
     if !are_known(alloc, facts, &rule.pair.anchors, found, atoms)? {
         return Ok(None);
     }
-    match fill(alloc, &rule.pair.dest, &rule.pair.anchors, found)? {
-        Some(filled) => {
-            let made = put_at(alloc, plan, node, filled.plan)?;
-            Ok(if_regular(facts, plan, made))
-        }
-        None => Ok(None),
-    }
+    let filled = fill(alloc, &rule.pair.dest, &rule.pair.anchors, found)?;
+    let made = put_at(alloc, plan, node, &filled)?;
+    Ok(if_regular(facts, plan, made))
 }
 
 /// The plan with the rule's destination in the place of its match at a node; None exactly where the rule has no match there.

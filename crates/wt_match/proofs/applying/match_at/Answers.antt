@@ -4,7 +4,7 @@ use Rattle.wt_plan.specs.Tree.{plan_tree}
 use Rattle.wt_plan.specs.WellFormed.{Narrow}
 use Rattle.wt_matching.specs.Finding.{found, nothing, just}
 use Rattle.wt_found.specs.Seen.{seen, seen_or_not}
-use Rattle.wt_fill.proofs.NarrowNodes.{narrow_at}
+use Rattle.wt_matching.proofs.Subplans.{narrow_at}
 use Rattle.wt_match.proofs.Deciding.{none_found}
 use Rattle.wt_match.proofs.applying.match_at.Goals as goal
 

@@ -176,7 +176,7 @@ module _ (name : List ℕ) (o w : Outcome) where
       let one : Ok (book_tree book) ≡ Ok (book_tree other) = one_answer bytes (Ok (book_tree book)) (Ok (book_tree other)) is is' in
       let same : book_tree book ≡ book_tree other = cc in
       let many : length book.rules ≡ length other.rules =
-          sym (length-map book.rules rule_tree) ∙ ap (λ (t : BookTree). length t.rules) same ∙ length-map other.rules rule_tree
+      sym (length-map book.rules rule_tree) ∙ ap (λ (t : BookTree). length t.rules) same ∙ length-map other.rules rule_tree
       in
       same_text o w _ h (k ∙ ap all_read (sym many))
   read_checked bytes (Ok book) (Err (fault, line)) is is' h k = absurd (subst IsBook (one_answer bytes (Ok (book_tree book)) (Err (fault, line)) is is') tt)

@@ -30,8 +30,7 @@ counterpart (x ∷ a) (y ∷ b) alike (suc k) rule at = let rest : map rule_tree
 module _ (S : List Table) where
   same_step : (a b : List Rule) → AreAlike a b → (plan : PlanTree) (step : Applied) (m : Assigned) (is : IsStep S a plan step m) → (other : IsStep S b plan step m) × (rule_tree other.rule ≡ rule_tree is.rule)
   same_step a b alike plan step m is =
-      let found = counterpart a b alike step.rule is.rule is.at in
-      (
+      let found = counterpart a b alike step.rule is.rule is.at in (
         record {
           rule = found.0;
           at = found.1;
@@ -47,8 +46,7 @@ module _ (S : List Table) where
   same_first : (a b : List Rule) → AreAlike a b → (plan : PlanTree) (step : Applied) (m : Assigned) (first : IsFirst S a plan step m)
       → (other : IsFirst S b plan step m) × (rule_tree other.is.rule ≡ rule_tree first.is.rule)
   same_first a b alike plan step m first =
-      let found = same_step a b alike plan step m first.is in
-      (
+      let found = same_step a b alike plan step m first.is in (
         record {
           is = found.0;
           first = λ other x before is. first.first other x before (same_step b a (sym alike) plan other x is).0;

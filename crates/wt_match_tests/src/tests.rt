@@ -62,6 +62,7 @@ fn first(alloc: Global, text: &str) -> Result<Query, QueryError>
 }
 
 // The plan of a query. Want of memory stands for a query that is refused.
+#[tactic(auto, using(crate::proofs::Small::few_items))]
 fn query_plan(alloc: Global, schema: &Schema, query: &Query) -> Result<Plan, AllocError>
     requires { IsLawful (query_tree query.now) }
     ensures { IfOk result (λ plan. Narrow (plan_tree plan)) }

@@ -120,15 +120,12 @@ pub(crate) fn refused_around(view: &View, set: AtomSet) -> Option<AtomSet>
     refused_logged(view.rest, view.pair, set)
 }
 
-/// Whether the set is neither known proved nor known refused.
+/// Whether the set is neither known proved nor known refused. Refused sets are few, so they are asked first.
 pub(crate) fn is_unknown(view: &View, set: AtomSet) -> bool
     ensures { IsTrue result ↔ (knows (lore_with view.now.cores.now view.now.refused.now view.now.rest.now view.now.pair) set ≡ false) }
 {
-    if has_core(view, set) {
-        return false;
-    }
     match refused_around(view, set) {
         Some(_) => false,
-        None => true,
+        None => !has_core(view, set),
     }
 }

@@ -63,17 +63,18 @@ pub(crate) fn half_without(node: Node, i: u32) -> Node
     }
 }
 
-/// What is known of a node of the pair.
+/// What is known of a node of the pair. Refused sets are few, so they are asked first.
 ///
 /// Where the least of its sets lies in a refused one, those that are not known have an atom that this one has not.
 pub(crate) fn look(view: &View, node: Node) -> Sight
     ensures { Sees (lore_with view.now.cores.now view.now.refused.now view.now.rest.now view.now.pair) node result }
 {
-    if has_core(view, node.must) {
-        return Sight::Known;
-    }
     let Some(refused) = refused_around(view, node.must) else {
-        return Sight::Unknown;
+        return if has_core(view, node.must) {
+            Sight::Known
+        } else {
+            Sight::Unknown
+        };
     };
     match first_outside(node.may, refused) {
         Some(i) => Sight::Splits(i),

@@ -17,11 +17,8 @@ use Rattle.wt_rewrite.specs.declared.first.Hit.{Hit}
 use Rattle.wt_rewrite.specs.declared.runs.Run.{Run}
 use Rattle.wt_rewrite.specs.Runs.{SameSource, IsRun, AreRuns}
 use Rattle.wt_rewrite.specs.Search.{step_of, HasNoneAt, IsFirstIn, HasWalked, HasNoneFrom, IsFirstOf}
-use Rattle.wt_rewrite.proofs.Listing.{get_within}
+use Rattle.wt_rewrite.proofs.Listing.{get_within, same_some}
 use Rattle.wt_rewrite.proofs.Searching.{first_rule}
-
-pub same_some : (a b : Rule) → Some a ≡ Some b → a ≡ b
-same_some a b e = cc
 
 get_some : (xs : List Rule) (k : ℕ) → k < length xs → (x : Rule) × (slice_get xs k ≡ Some x)
 get_some [] k lt = absurd (omega (arith, lt))
@@ -73,9 +70,6 @@ run_more rules start end one other e f same run = record {
         subst (λ (z : Rule). SameSource z first) left (subst (λ (z : Rule). SameSource one z) right same)
 
 module _ (S : List Table) (rules : List Rule) (plan : PlanTree) (node : ℕ) where
-  pub none_start : (start : ℕ) → HasNoneFrom S rules plan node start start
-  none_start start = record { none = λ k m ge lt is. absurd (omega (arith, ge, lt)) }
-
   pub none_next : (start k : ℕ) → HasNoneFrom S rules plan node start k → ((m : Assigned) → IsStep S rules plan (step_of node k) m → ⊥) → HasNoneFrom S rules plan node start (k + 1)
   none_next start k h here = record {
     none = λ j m ge lt is. elim (cases_lt j k) [

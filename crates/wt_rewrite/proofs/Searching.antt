@@ -12,6 +12,7 @@ use Rattle.wt_matching.specs.Matching.{IsMatch}
 use Rattle.wt_chains.specs.declared.applied.Applied.{Applied}
 use Rattle.wt_chains.specs.Chains.{IsStep, HasNoMatch}
 use Rattle.wt_rewrite.specs.declared.first.Hit.{Hit}
+use Rattle.wt_rewrite.proofs.Listing.{same_some}
 use Rattle.wt_rewrite.specs.Search.{step_of, IsHit, HasNoneAt, HasNoneIn, IsFirstIn, IsFirstHit}
 
 module _ (S : List Table) (rules : List Rule) (plan : PlanTree) where
@@ -69,9 +70,6 @@ module _ (S : List Table) (rules : List Rule) (plan : PlanTree) where
     ];
   }
 
-  same_some : (a b : Rule) → Some a ≡ Some b → a ≡ b
-  same_some a b e = cc
-
   -- the rule of this number has no match at the node
   pub none_rule : (node k : ℕ) (rule : Rule) → slice_get rules k ≡ Some rule → ((m : Assigned) → IsMatch S (pair_of rule.pair) rule.set plan node m → ⊥) → (m : Assigned) → IsStep S rules plan (step_of node k) m → ⊥
   none_rule node k rule e h m is = h m (subst (λ (r : Rule). IsMatch S (pair_of r.pair) r.set plan node m) (same_some is.rule rule (sym is.at ∙ e)) is.matches)
@@ -85,13 +83,3 @@ module _ (S : List Table) (rules : List Rule) (plan : PlanTree) where
     first = record { is = f.hit.is; first = λ other m before is. f.first other m (omega arith) before is };
     made = f.hit.made;
   }
-
-  pub none_more : (node k : ℕ) → ((j : ℕ) (m : Assigned) → j < k → IsStep S rules plan (step_of node j) m → ⊥) → ((m : Assigned) → IsStep S rules plan (step_of node k) m → ⊥) →
-      (j : ℕ) (m : Assigned) → j < k + 1 → IsStep S rules plan (step_of node j) m → ⊥
-  none_more node k h here j m lt is = elim (cases_lt j k) [
-    | inl below ↦ h j m below is
-    | inr ge ↦ here m (subst (λ n. IsStep S rules plan (step_of node n) m) (same j k ge lt) is)
-  ]
-    where
-      same : (j k : ℕ) → k ≤ j → j < k + 1 → j ≡ k
-      same j k ge lt = omega arith

@@ -8,8 +8,8 @@ use Rattle.wt_matching.specs.Nodes.{at}
 use Rattle.wt_matching.specs.Finding.{found, nothing, just}
 use Rattle.wt_found.specs.Seen.{seen, seen_or_not}
 use Rattle.wt_matching.proofs.Subplans.{narrow_at}
-use Rattle.wt_rewrite.proofs.Listing.{get_at}
-use Rattle.wt_rewrite.proofs.Running.{same_some, none_walked}
+use Rattle.wt_rewrite.proofs.Listing.{get_at, same_some}
+use Rattle.wt_rewrite.proofs.Running.{none_walked}
 use Rattle.wt_rewrite.proofs.first.at_run.Goals as goal
 
 pub find-requires : goal.find-requires

@@ -1,9 +1,7 @@
 -- Counting the FROM items of blocks.
-use Rattle.std.proofs.Common.{◌≡◌, ℕ, ◌+◌, ◌≤◌, true, false, None, refl, arith}
-use Rattle.wt_plan.specs.Tree.{PlanTree}
-use Rattle.wt_plan.specs.Tree as plans
-use Rattle.wt_blocks.specs.Blocks.{Block, Zone, block, derived, distinct, zone_of, plan_block}
-use Rattle.wt_blocks.specs.Counting.{block_items, from_items, condition_items}
+use Rattle.std.proofs.Common.{◌≡◌, ◌+◌, true, false, None, refl, arith}
+use Rattle.wt_blocks.specs.Blocks.{Block, block, derived, distinct}
+use Rattle.wt_blocks.specs.Counting.{block_items}
 
 pub distinct_twice : (b : Block) → block_items (distinct (distinct b)) ≡ 1 + block_items (distinct b)
 distinct_twice (block false list z) = omega arith

@@ -1,16 +1,14 @@
 -- What the conditions of the call say of the zones that are walked, and its clauses from the tree's definition.
-use Rattle.std.proofs.Common.{◌≡◌, ℕ, zero, suc, ◌+◌, ◌<◌, ◌≤◌, ◌^◌, List, [], length, map, Some, None, Result, Ok, Err, refl, sym, ap, subst, ◌∙◌, arith}
+use Rattle.std.proofs.Common.{◌≡◌, ℕ, suc, ◌+◌, ◌<◌, ◌^◌, List, length, map, Some, Result, Ok, Err, sym, ap, ◌∙◌, arith}
 use Rattle.std.specs.Prelude.{IfOk}
 use Rattle.wt_schema.specs.declared.schema.Table.{Table}
-use Rattle.wt_schema.specs.Lawful.{IsSchema}
 use Rattle.wt_ast.specs.Tree.{QueryTree}
 use Rattle.wt_ast.specs.Tree as trees
 use Rattle.wt_query_rows.specs.Scopes.{in_scope}
 use Rattle.wt_plan.specs.Tree.{PlanTree}
 use Rattle.wt_plan.specs.Tree as plans
 use Rattle.wt_plan.specs.Measures.{width, cost}
-use Rattle.wt_plan.specs.WellFormed.{PlacesFit}
-use Rattle.wt_plan.specs.Regular.{RegularNodes, Regular}
+use Rattle.wt_plan.specs.Regular.{Regular}
 use Rattle.wt_blocks.specs.Blocks.{distinct, zone_of, plan_block}
 use Rattle.wt_blocks.specs.Counting.{block_width, from_items, condition_items}
 use Rattle.wt_blocks.specs.Printed.{alias_of, place_names, block_tree, from_tree, zone_columns}

@@ -1,7 +1,7 @@
 //! A FROM clause with its items, from its parts.
 ghost use Rattle.std.specs.Prelude.{◌≡◌, ◌++◌, ◌+◌, ◌<◌, ◌^◌, List, [], ◌∷◌, map, None, Some, IfOk, OnOk};
 ghost use Rattle.wt_schema.specs.declared.schema.Table.{Table};
-ghost use Rattle.wt_ast.specs.Tree.{query_tree, from_tree, condition_tree, select, table, derived, inner_join, left_join, in_query};
+ghost use Rattle.wt_ast.specs.Tree.{query_tree, from_tree, condition_tree, select, no_filter, table, derived, inner_join, left_join, in_query};
 ghost use Rattle.wt_pred.specs.Tree.{pred_tree};
 ghost use Rattle.wt_query_rows.specs.Scopes.{in_scope};
 ghost use Rattle.wt_blocks.specs.Printed as spec;
@@ -94,6 +94,33 @@ pub(crate) fn derived_from(
     })
 }
 
+/// What a derived table is called: its alias, its columns, and itself as the only item of a FROM clause.
+#[derive(Drop)]
+struct DerivedNames {
+    alias: Name,
+    columns: Names,
+    leaves: Vec<Leaf>,
+}
+
+fn derived_names(alloc: Global, width: u32, item: u64) -> Result<DerivedNames, WantOfMemory>
+    ensures alias { IfOk result (λ d. d.alias ≡ spec.alias_of item) }
+    ensures columns { IfOk result (λ d. d.columns ≡ spec.place_names width) }
+    ensures leaves { (S : List Table) → IfOk result (λ d. scope_of_leaves S d.leaves.items ≡ map (in_scope (spec.alias_of item)) (spec.place_names width)) }
+{
+    let columns = place_names(alloc, width)?;
+    let alias = alias_of(alloc, item)?;
+    let leaf = Leaf {
+        alias: alias.clone()?,
+        columns: LeafColumns::Places(width),
+    };
+    let leaves = one_leaf(alloc, leaf)?;
+    Ok(DerivedNames {
+        alias,
+        columns,
+        leaves,
+    })
+}
+
 /// A query of so many columns as a derived table.
 pub(crate) fn derived_part(
     alloc: Global,
@@ -104,15 +131,12 @@ pub(crate) fn derived_part(
     ensures from { IfOk result (λ p. from_tree p.from ≡ derived (query_tree query) (spec.alias_of item) (Some (spec.place_names width)) 0 0) }
     ensures columns { (S : List Table) → IfOk result (λ p. scope_of_leaves S p.leaves.items ≡ map (in_scope (spec.alias_of item)) (spec.place_names width)) }
 {
-    let leaf = Leaf {
-        alias: alias_of(alloc, item)?,
-        columns: LeafColumns::Places(width),
-    };
-    let columns = place_names(alloc, width)?;
-    let alias = leaf.alias.clone()?;
-    let from = derived_from(alloc, query, alias, columns)?;
-    let leaves = one_leaf(alloc, leaf)?;
-    Ok(Part { from, leaves })
+    let names = derived_names(alloc, width, item)?;
+    let from = derived_from(alloc, query, names.alias, names.columns)?;
+    Ok(Part {
+        from,
+        leaves: names.leaves,
+    })
 }
 
 fn pairs(
@@ -147,39 +171,78 @@ fn both(left: Vec<Leaf>, right: Vec<Leaf>) -> Result<Vec<Leaf>, WantOfMemory>
     Ok(left)
 }
 
-fn inner_from(
-    alloc: Global,
-    left: FromPart,
-    right: FromPart,
-    on: Condition,
-) -> Result<FromPart, WantOfMemory>
-    ensures { IfOk result (λ f. from_tree f ≡ inner_join (from_tree left) (from_tree right) (condition_tree on) 0) }
+fn longer(pairs: Vec<Condition>, conditions: Vec<Condition>) -> Result<Vec<Condition>, WantOfMemory>
+    ensures { IfOk result (λ cs. cs.items ≡ pairs.items ++ conditions.items) }
 {
-    let left = Box::new(alloc, left)?;
-    let right = Box::new(alloc, right)?;
-    Ok(FromPart::Inner {
-        left,
-        right,
-        on,
-        on_at: 0,
-    })
+    let (mut pairs, mut conditions) = (pairs, conditions);
+    pairs.append(&mut conditions)?;
+    Ok(pairs)
 }
 
-fn left_from(
+/// The ON of a join: its pairs, and these conditions behind them.
+#[tactic(auto, using(crate::proofs::Scopes::scopes))]
+fn on_of(
+    alloc: Global,
+    schema: &Schema,
+    a: &Cols,
+    b: &Cols,
+    left: &[Leaf],
+    right: &[Leaf],
+    conditions: Vec<Condition>,
+) -> Result<Condition, WantOfMemory>
+    ensures { IfOk result (λ c. condition_tree c ≡ spec.together (spec.pair_trees (scope_of_leaves schema.now.tables left.now) (scope_of_leaves schema.now.tables right.now) a.now b.now ++ map condition_tree conditions.items)) }
+{
+    let on = pairs(alloc, schema, a, b, left, right)?;
+    let on = longer(on, conditions)?;
+    together(alloc, on)
+}
+
+fn boxes(
     alloc: Global,
     left: FromPart,
     right: FromPart,
-    on: Condition,
-) -> Result<FromPart, WantOfMemory>
-    ensures { IfOk result (λ f. from_tree f ≡ left_join (from_tree left) (from_tree right) (condition_tree on) 0) }
+) -> Result<(Box<FromPart>, Box<FromPart>), WantOfMemory>
+    ensures left { IfOk result (λ both. both.0.value ≡ left) }
+    ensures right { IfOk result (λ both. both.1.value ≡ right) }
 {
     let left = Box::new(alloc, left)?;
     let right = Box::new(alloc, right)?;
-    Ok(FromPart::Left {
+    Ok((left, right))
+}
+
+/// The parts of a join: its operands, its ON, and the items of both operands.
+#[derive(Drop)]
+struct Join {
+    left: Box<FromPart>,
+    right: Box<FromPart>,
+    on: Condition,
+    leaves: Vec<Leaf>,
+}
+
+/// The parts of a join, in whose ON the conditions of the right operand stand behind the pairs.
+#[tactic(auto, using(crate::proofs::Scopes::scopes))]
+fn joined(
+    alloc: Global,
+    schema: &Schema,
+    a: &Cols,
+    b: &Cols,
+    left: Part,
+    right: Zone,
+) -> Result<Join, WantOfMemory>
+    ensures left { IfOk result (λ j. j.left.value ≡ left.from) }
+    ensures right { IfOk result (λ j. j.right.value ≡ right.from) }
+    ensures on { IfOk result (λ j. condition_tree j.on ≡ spec.together (spec.pair_trees (scope_of_leaves schema.now.tables left.leaves.items) (scope_of_leaves schema.now.tables right.leaves.items) a.now b.now ++ map condition_tree right.conditions.items)) }
+    ensures columns { IfOk result (λ j. scope_of_leaves schema.now.tables j.leaves.items ≡ scope_of_leaves schema.now.tables left.leaves.items ++ scope_of_leaves schema.now.tables right.leaves.items) }
+{
+    let conditions = right.conditions;
+    let on = on_of(alloc, schema, a, b, &left.leaves, &right.leaves, conditions)?;
+    let leaves = both(left.leaves, right.leaves)?;
+    let (left, right) = boxes(alloc, left.from, right.from)?;
+    Ok(Join {
         left,
         right,
         on,
-        on_at: 0,
+        leaves,
     })
 }
 
@@ -196,23 +259,24 @@ pub(crate) fn inner_part(
     ensures from { IfOk result (λ p. from_tree p.from ≡ inner_join (from_tree left.from) (from_tree right.from) (spec.together (spec.pair_trees (scope_of_leaves schema.now.tables left.leaves.items) (scope_of_leaves schema.now.tables right.leaves.items) a.now b.now)) 0) }
     ensures columns { IfOk result (λ p. scope_of_leaves schema.now.tables p.leaves.items ≡ scope_of_leaves schema.now.tables left.leaves.items ++ scope_of_leaves schema.now.tables right.leaves.items) }
 {
-    let on = pairs(alloc, schema, a, b, &left.leaves, &right.leaves)?;
-    let on = together(alloc, on)?;
-    let from = inner_from(alloc, left.from, right.from, on)?;
-    let leaves = both(left.leaves, right.leaves)?;
-    Ok(Part { from, leaves })
-}
-
-fn longer(pairs: Vec<Condition>, conditions: Vec<Condition>) -> Result<Vec<Condition>, WantOfMemory>
-    ensures { IfOk result (λ cs. cs.items ≡ pairs.items ++ conditions.items) }
-{
-    let (mut pairs, mut conditions) = (pairs, conditions);
-    pairs.append(&mut conditions)?;
-    Ok(pairs)
+    let right = Zone {
+        from: right.from,
+        leaves: right.leaves,
+        conditions: Vec::new(alloc),
+    };
+    let join = joined(alloc, schema, a, b, left, right)?;
+    Ok(Part {
+        from: FromPart::Inner {
+            left: join.left,
+            right: join.right,
+            on: join.on,
+            on_at: 0,
+        },
+        leaves: join.leaves,
+    })
 }
 
 /// A LEFT JOIN, in whose ON the conditions of the right operand stand behind the pairs.
-#[tactic(auto, using(crate::proofs::Scopes::scopes))]
 pub(crate) fn left_part(
     alloc: Global,
     schema: &Schema,
@@ -224,12 +288,16 @@ pub(crate) fn left_part(
     ensures from { IfOk result (λ p. from_tree p.from ≡ left_join (from_tree left.from) (from_tree right.from) (spec.together (spec.pair_trees (scope_of_leaves schema.now.tables left.leaves.items) (scope_of_leaves schema.now.tables right.leaves.items) a.now b.now ++ map condition_tree right.conditions.items)) 0) }
     ensures columns { IfOk result (λ p. scope_of_leaves schema.now.tables p.leaves.items ≡ scope_of_leaves schema.now.tables left.leaves.items ++ scope_of_leaves schema.now.tables right.leaves.items) }
 {
-    let on = pairs(alloc, schema, a, b, &left.leaves, &right.leaves)?;
-    let on = longer(on, right.conditions)?;
-    let on = together(alloc, on)?;
-    let from = left_from(alloc, left.from, right.from, on)?;
-    let leaves = both(left.leaves, right.leaves)?;
-    Ok(Part { from, leaves })
+    let join = joined(alloc, schema, a, b, left, right)?;
+    Ok(Part {
+        from: FromPart::Left {
+            left: join.left,
+            right: join.right,
+            on: join.on,
+            on_at: 0,
+        },
+        leaves: join.leaves,
+    })
 }
 
 /// Adds a test of columns.
@@ -278,7 +346,7 @@ pub(crate) fn push_member(
 
 /// A query of its clauses.
 #[tactic(auto, using(crate::proofs::Scopes::queries))]
-pub(crate) fn finished(
+fn finished(
     alloc: Global,
     distinct: bool,
     items: Items,
@@ -339,4 +407,16 @@ pub(crate) fn named_columns(
     };
     let items = with_names(alloc, &sight, cols.as_slice(), names)?;
     finished(alloc, distinct, items, zone.from, zone.conditions)
+}
+
+/// `SELECT [DISTINCT] *` from a FROM clause without conditions.
+pub(crate) fn star_from(
+    alloc: Global,
+    distinct: bool,
+    from: FromPart,
+) -> Result<Query, WantOfMemory>
+    ensures { IfOk result (λ q. query_tree q ≡ select distinct (spec.items_of None []) (from_tree from) no_filter) }
+{
+    let items = star(alloc)?;
+    finished(alloc, distinct, items, from, Vec::new(alloc))
 }

@@ -18,13 +18,13 @@ ghost use Rattle.wt_blocks.specs.Parts.{PlanParts};
 ghost use Rattle.wt_blocks.specs.Printed as spec;
 ghost use Rattle.wt_tree_parts.specs.Leaves.{scope_of_leaves};
 
-use crate::part::{Zone, all_columns, derived_from, finished, named_columns};
+use crate::part::{Zone, all_columns, derived_from, named_columns, star_from};
 use crate::walk::{starred, zone};
 use std::alloc::Global;
 use wt_ast::Query;
 use wt_plan::{Named, Plan};
 use wt_schema::Schema;
-use wt_tree_parts::{Sight, alias_of, have_names, star};
+use wt_tree_parts::{Sight, alias_of, have_names};
 use wt_value::{Cols, Name, Names, WantOfMemory};
 
 /// Columns of a zone under these names.
@@ -59,11 +59,12 @@ fn renamed(
     requires room { 1 + (from_items (zone_of (plan_tree plan.now)) + condition_items (zone_of (plan_tree plan.now))) < 2 ^ 62 }
     ensures { IfOk result (λ q. query_tree q ≡ spec.star_tree false schema.now.tables once (zone_of (plan_tree plan.now)) names.now) }
 {
+    let alias = alias_of(alloc, 0)?;
+    let columns = names.clone()?;
     let mut next: u64 = 1;
     let query = starred(alloc, schema, false, plan, &mut next)?;
-    let from = derived_from(alloc, query, alias_of(alloc, 0)?, names.clone()?)?;
-    let items = star(alloc)?;
-    finished(alloc, once, items, from, Vec::new(alloc))
+    let from = derived_from(alloc, query, alias, columns)?;
+    star_from(alloc, once, from)
 }
 
 /// Whether the columns of a zone have these names, of which there are as many.

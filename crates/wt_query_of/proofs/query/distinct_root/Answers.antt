@@ -1,4 +1,4 @@
-use Rattle.std.proofs.Common.{◌≡◌, ◌+◌, ◌<◌, ◌^◌, ap, arith}
+use Rattle.std.proofs.Common.{◌≡◌, ◌+◌, ap, arith}
 use Rattle.wt_plan.specs.Tree.{plan_tree}
 use Rattle.wt_plan.specs.Measures.{cost}
 use Rattle.wt_query_of.proofs.Roots.{room_for}

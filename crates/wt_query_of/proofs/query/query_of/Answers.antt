@@ -1,4 +1,4 @@
-use Rattle.std.proofs.Common.{◌≡◌, [], ap, sym, subst, ◌∙◌}
+use Rattle.std.proofs.Common.{[], ap, sym, subst, ◌∙◌}
 use Rattle.wt_ast.specs.Lawful.{IsFormed}
 use Rattle.wt_plan.specs.Tree.{plan_tree}
 use Rattle.wt_place.specs.Placing.{placed}

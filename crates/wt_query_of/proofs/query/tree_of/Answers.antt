@@ -1,4 +1,4 @@
-use Rattle.std.proofs.Common.{◌≡◌, ◌+◌, ◌<◌, ◌^◌, length, ap, subst, sym, ◌∙◌, arith}
+use Rattle.std.proofs.Common.{◌≡◌, ◌+◌, ap, subst, sym, ◌∙◌, arith}
 use Rattle.wt_plan.specs.Tree.{plan_tree, dedup}
 use Rattle.wt_plan.specs.Measures.{width, cost}
 use Rattle.wt_plan.specs.Regular.{Regular}

@@ -1,9 +1,7 @@
 """What the benches share: the built program, and a run of it with its time, peak memory and status."""
-import os
 import pathlib
 import subprocess
 import sys
-import time
 
 TOP = pathlib.Path(__file__).resolve().parent.parent
 MIB = 1 << 20
@@ -17,13 +15,21 @@ def program(crate):
     return path.resolve()
 
 
+# Runs its words and tells the processor seconds, the peak memory and the status. It stands between, since a process begins with the peak of
+# the one that it was made by.
+SMALL = """import os, sys
+pid = os.posix_spawn(sys.argv[1], sys.argv[1:], os.environ)
+_, status, usage = os.wait4(pid, 0)
+print(usage.ru_utime + usage.ru_stime, usage.ru_maxrss / 1024, os.waitstatus_to_exitcode(status), file=sys.stderr)
+"""
+
+
 def measure(words, folder):
-    """The seconds, the peak memory in MB and the status of a run in this folder; its output goes to the file `out`."""
-    started = time.monotonic()
+    """The seconds of processor, the peak memory in MB and the status of a run in this folder; its output goes to the file `out`."""
     with open(folder / 'out', 'wb') as out:
-        child = subprocess.Popen(words, cwd=folder, stdout=out)
-        _, status, usage = os.wait4(child.pid, 0)
-    return time.monotonic() - started, usage.ru_maxrss / 1024, os.waitstatus_to_exitcode(status)
+        run = subprocess.run([sys.executable, '-IS', '-c', SMALL, *words], cwd=folder, stdout=out, stderr=subprocess.PIPE, check=True)
+    seconds, memory, status = run.stderr.split()[-3:]
+    return float(seconds), float(memory), int(status)
 
 
 def plain_example(folder):

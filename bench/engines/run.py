@@ -1,197 +1,82 @@
 #!/usr/bin/env python3
-"""Runs statements and their printed texts on PostgreSQL and on SQLite, and compares the answers as bags.
+"""Runs statements and what is printed for them on PostgreSQL and on SQLite, and compares the answers as bags.
 
-  bench/engines/run.py [PROGRAM] [--generated N] [--databases D] [--seed S] [--no-postgres]
+  bench/engines/run.py [PROGRAM] [--rules FILE] [--generated N] [--databases D] [--seed S] [--no-postgres]
 
-PROGRAM is the built `wetune`. Each statement of examples/ and N generated ones are printed with an empty rule file; those that are refused
-are counted and left. For each schema D databases are made that satisfy it, with NULLs and equal rows, and on each of them both engines
-answer the statement and its text. PostgreSQL is one of its own in a temporary folder (`apt-get install postgresql sqlite3`), with the
-collation C, in which texts are compared by their bytes.
+PROGRAM is the built `wetune`. Each statement of examples/ and N generated ones are printed twice, without rules and rewritten by the rules of
+FILE (the 438 of examples/rules); those that are refused are counted and left. For each schema D databases are made that satisfy it, with NULLs
+and equal rows, and on each of them both engines answer the statement and its two texts. It needs `apt-get install postgresql sqlite3`.
 """
 import argparse
 import collections
-import os
 import pathlib
 import random
-import re
-import shutil
 import sqlite3
-import subprocess
 import sys
-import tempfile
 
-TOP = pathlib.Path(__file__).resolve().parent.parent.parent
-RULES = 'wetune-rules 1 steps=8\nend 0\n'
+from engines import NO_RULES, RULES, TOP, Postgres, constants, is_text, opened, printed, quoted, references, sqlite_answer, statements
+
 SCHEMA = '''
 CREATE TABLE cust (id INTEGER PRIMARY KEY, name TEXT, rank INTEGER);
 CREATE TABLE o (id INTEGER PRIMARY KEY, c INTEGER REFERENCES cust (id), d INTEGER NOT NULL REFERENCES cust (id), k INTEGER UNIQUE);
 CREATE TABLE item (o INTEGER REFERENCES o (id), n INTEGER, label TEXT, "Order" INTEGER);
+CREATE TABLE part (o INTEGER NOT NULL REFERENCES o (id), n INTEGER NOT NULL, label TEXT NOT NULL UNIQUE, PRIMARY KEY (o, n));
 '''
-
-
-# ---- texts
-
-def pieces(text):
-    """The text cut into quoted parts, comments and single characters."""
-    return re.findall(r"'(?:[^']|'')*'|\"(?:[^\"]|\"\")*\"|--[^\n]*|/\*.*?\*/|.", text, re.S)
-
-
-def statements(text):
-    """The statements of a file, without their semicolons."""
-    found, part = [], []
-    for piece in pieces(text) + [';']:
-        if piece == ';':
-            if any(not p.isspace() and not p.startswith(('--', '/*')) for p in part):
-                found.append(''.join(part).strip())
-            part = []
-        else:
-            part.append(piece)
-    return found
-
-
-def for_sqlite(text):
-    """`(query) AS name (columns)` as SQLite takes it, which has no column list there: through a WITH."""
-    parts = pieces(text)
-    out, opened = [], []
-    i = 0
-    while i < len(parts):
-        if parts[i] == '(':
-            opened.append(len(out))
-            out.append('(')
-        elif parts[i] == ')' and opened:
-            begin = opened.pop()
-            out.append(')')
-            rest = ''.join(parts[i + 1:i + 4000])
-            named = re.match(r'\s*(?:AS\s+)?("(?:[^"]|"")*"|[A-Za-z_]\w*)\s*(\((?:\s*(?:"(?:[^"]|"")*"|\w+)\s*,?)+\))', rest, re.I)
-            inside = ''.join(out[begin + 1:-1])
-            if named and re.match(r'\s*SELECT\b', inside, re.I) and named.group(1).upper() not in ('IN', 'ON', 'AND', 'OR', 'WHERE'):
-                name, columns = named.groups()
-                out[begin:] = [f'(WITH {name} {columns} AS ({inside}) SELECT * FROM {name}) AS {name}']
-                i += len(pieces(named.group(0)))
-        else:
-            out.append(parts[i])
-        i += 1
-    return ''.join(out)
-
-
-def printed(program, schema, statement):
-    """The printed text of a statement, or None where it is refused."""
-    with tempfile.TemporaryDirectory() as folder:
-        folder = pathlib.Path(folder)
-        (folder / 'rules').write_text(RULES)
-        (folder / 'schema').write_text(schema)
-        (folder / 'queries').write_text(statement + '\n;')
-        run = subprocess.run([program, 'rewrite', 'rules', 'schema', 'queries'], cwd=folder, capture_output=True)
-    text = run.stdout.decode()
-    return None if run.returncode or text.startswith('-- refused') else text.rstrip('\n').rstrip(';')
 
 
 # ---- databases
 
-def database(schema, rng):
+def database(schema, texts, rng):
     """An SQLite database that satisfies the schema, made by trying rows under its own constraints."""
-    db = sqlite3.connect(':memory:')
-    db.execute('PRAGMA foreign_keys = ON')
-    for statement in statements(schema):
-        db.execute(statement)
-    tables = [name for (name,) in db.execute("SELECT name FROM sqlite_master WHERE type = 'table' ORDER BY rowid")]
+    db, tables = opened(schema)
+    numbers, words = constants(texts)
+    pool = Pool(rng, numbers, words)
     for _ in range(3):
         for table in tables:
             columns = db.execute(f'PRAGMA table_info({quoted(table)})').fetchall()
-            for _ in range(rng.choice((0, 2, 6))):
-                row = [value(rng, kind, required or key) for (_, _, kind, required, _, key) in columns]
-                marks = ', '.join('?' * len(row))
+            for _ in range(rng.choice((0, 3, 8))):
+                row = {name: pool.value(kind, required or key) for (_, name, kind, required, _, key) in columns}
+                follow(db, table, row, rng)
                 try:
-                    db.execute(f'INSERT INTO {quoted(table)} VALUES ({marks})', row)
+                    db.execute(f'INSERT INTO {quoted(table)} VALUES ({", ".join("?" * len(row))})', list(row.values()))
                 except sqlite3.IntegrityError:
                     pass
     return db, tables
 
 
-def value(rng, kind, required):
-    if not required and rng.random() < 0.25:
-        return None
-    if re.match(r'text|varchar|char', kind, re.I):
-        return rng.choice(('', 'a', 'b', "it's", 'x y'))
-    return rng.choice((0, 1, 2, 3, 5, 7))
+class Pool:
+    """Values of rows: a few of each kind, and those that the statements name."""
+
+    def __init__(self, rng, numbers, words):
+        self.rng = rng
+        self.numbers = [0, 1, 2, 3, 5, 7] + rng.sample(numbers, min(4, len(numbers)))
+        self.words = ['', 'a', 'b', "it's", 'x y'] + rng.sample(words, min(6, len(words)))
+
+    def value(self, kind, required):
+        if not required and self.rng.random() < 0.25:
+            return None
+        return self.rng.choice(self.words if is_text(kind) else self.numbers)
 
 
-def quoted(name):
-    return '"' + name.replace('"', '""') + '"'
-
-
-def literal(v):
-    return 'NULL' if v is None else str(v) if isinstance(v, int) else "'" + v.replace("'", "''") + "'"
-
-
-# ---- engines
-
-class Postgres:
-    def __init__(self):
-        found = sorted(pathlib.Path('/usr/lib/postgresql').glob('*/bin')) or [pathlib.Path(shutil.which('initdb')).parent]
-        self.bin = found[-1]
-        self.folder = pathlib.Path(tempfile.mkdtemp(prefix='engines-'))
-        self.user = ['su', 'postgres', '-s', '/bin/sh', '-c'] if os.geteuid() == 0 else ['sh', '-c']
-        if os.geteuid() == 0:
-            shutil.chown(self.folder, 'postgres')
-        self.sh(f'{self.bin}/initdb -D {self.folder}/db --locale=C --encoding=UTF8 -A trust -U judge')
-        self.sh(f'{self.bin}/pg_ctl -D {self.folder}/db -w -l {self.folder}/log -o "-k {self.folder} -c listen_addresses=" start')
-
-    def sh(self, command):
-        subprocess.run(self.user + [command], check=True, capture_output=True)
-
-    def run(self, text):
-        return subprocess.run(['psql', '-X', '-q', '-h', str(self.folder), '-U', 'judge', 'postgres'], input=text.encode(), capture_output=True)
-
-    def load(self, db, tables):
-        rows = []
-        for table in tables:
-            columns = ', '.join(f'{quoted(name)} {kind}' for (_, name, kind, _, _, _) in db.execute(f'PRAGMA table_info({quoted(table)})'))
-            rows.append(f'CREATE TABLE {quoted(table)} ({columns});')
-            for row in db.execute(f'SELECT * FROM {quoted(table)}'):
-                rows.append(f'INSERT INTO {quoted(table)} VALUES ({", ".join(map(literal, row))});')
-        begin = 'SET client_min_messages = error; DROP SCHEMA IF EXISTS public CASCADE; CREATE SCHEMA public;\n'
-        done = self.run('\\set ON_ERROR_STOP 1\n' + begin + '\n'.join(rows))
-        if done.returncode:
-            sys.exit(done.stderr.decode())
-
-    def answers(self, texts):
-        """The bag of each text's rows, or its error."""
-        asked = ''.join(f'COPY ({text}\n) TO STDOUT;\n\\echo -- {i}\n\\warn -- {i}\n' for i, text in enumerate(texts))
-        done = self.run(asked)
-        rows, faults = (re.split(r'^-- \d+\n', told.decode(), flags=re.M)[:len(texts)] for told in (done.stdout, done.stderr))
-        return [fault or bag_of_copy(part) for part, fault in zip(rows, faults)]
-
-    def stop(self):
-        self.sh(f'{self.bin}/pg_ctl -D {self.folder}/db -m immediate stop')
-        shutil.rmtree(self.folder, ignore_errors=True)
-
-
-def bag_of_copy(text):
-    rows = (tuple(None if v == '\\N' else v for v in line.split('\t')) for line in text.split('\n')[:-1])
-    return collections.Counter(rows)
-
-
-def escaped(v):
-    return None if v is None else str(v).replace('\\', '\\\\').replace('\n', '\\n').replace('\t', '\\t')
-
-
-def sqlite_answer(db, text):
-    try:
-        return collections.Counter(tuple(map(escaped, row)) for row in db.execute(for_sqlite(text)))
-    except sqlite3.Error as fault:
-        return str(fault)
+def follow(db, table, row, rng):
+    """Gives most references of a row a target that is there."""
+    for columns, target, others in references(db, table):
+        found = db.execute(f'SELECT {", ".join(map(quoted, others))} FROM {quoted(target)}').fetchall()
+        if found and rng.random() < 0.9 and None not in [row[column] for column in columns]:
+            row.update(zip(columns, rng.choice(found)))
 
 
 # ---- statements
 
 class Maker:
-    """Statements over SCHEMA, most of which the program accepts."""
+    """Statements over SCHEMA, most of which the program accepts, and in many of which some rule has a match."""
     TABLES = {
         'cust': [('id', 'n'), ('name', 't'), ('rank', 'n')],
         'o': [('id', 'n'), ('c', 'n'), ('d', 'n'), ('k', 'n')],
         'item': [('o', 'n'), ('n', 'n'), ('label', 't'), ('"Order"', 'n')],
+        'part': [('o', 'n'), ('n', 'n'), ('label', 't')],
     }
+    LINKED = {('c', 'id'), ('d', 'id'), ('o', 'id'), ('id', 'id')}
 
     def __init__(self, rng):
         self.rng = rng
@@ -207,7 +92,8 @@ class Maker:
         if width is None and self.rng.random() < 0.2:
             chosen, items = columns, '*'
         else:
-            chosen = [self.rng.choice(columns) for _ in range(width or self.rng.randint(1, 3))]
+            asked = columns if self.rng.random() < 0.5 else [c for c in columns if c[0] == columns[0][0]]
+            chosen = [self.rng.choice(asked) for _ in range(width or self.rng.randint(1, 3))]
             items = ', '.join(f'{alias}.{name}' + (f' AS out{i}' if width is None and self.rng.random() < 0.3 else '') for i, (alias, name, _) in enumerate(chosen))
         text = 'SELECT ' + self.rng.choice(('', '', 'DISTINCT ')) + items + ' FROM ' + source + where
         return text, chosen
@@ -249,12 +135,17 @@ class Maker:
         pairs = [(a, b) for a in left for b in right if a[2] == b[2]]
         if not pairs:
             return None
-        a, b = self.rng.choice(pairs)
+        linked = [(a, b) for a, b in pairs if (a[1], b[1]) in self.LINKED or (b[1], a[1]) in self.LINKED]
+        a, b = self.rng.choice(linked if linked and self.rng.random() < 0.6 else pairs)
         return self.rng.choice((f'{a[0]}.{a[1]} = {b[0]}.{b[1]}', f'{b[0]}.{b[1]} = {a[0]}.{a[1]}'))
 
     def conditions(self, columns, depth):
         linked, self.linked = getattr(self, 'linked', []), []
         parts = list(linked)
+        linked = [c for c in columns if c[1] in ('c', 'd')]
+        if linked and self.rng.random() < 0.15:
+            alias, name, _ = self.rng.choice(linked)
+            parts.append(f'{alias}.{name} IN (SELECT {self.rng.choice(("", "DISTINCT "))}cust.id FROM cust)')
         for _ in range(self.rng.choice((0, 1, 1, 2, 3))):
             if depth and self.rng.random() < 0.2:
                 text, chosen = self.query(depth - 1, 1)
@@ -293,60 +184,67 @@ class Maker:
 
 def cases(generated, rng):
     """Schemas and their statements."""
-    for schema in sorted(TOP.glob('examples/*/schema.sql')):
-        for queries in sorted(schema.parent.glob('queries*.sql')):
-            yield str(queries.relative_to(TOP)), schema.read_text(), statements(queries.read_text())
+    for schema in sorted(TOP.glob('examples/**/schema.sql')):
+        for queries in sorted(schema.parent.glob('*.sql')):
+            if queries != schema:
+                yield str(queries.relative_to(TOP)), schema.read_text(), statements(queries.read_text())
     yield 'generated', SCHEMA, [Maker(rng).statement() for _ in range(generated)]
 
 
-def judge(name, schema, pairs, databases, rng, postgres, told):
+def is_error(answer):
+    return isinstance(answer, str)
+
+
+def verdict(answers):
+    return 'error' if any(map(is_error, answers)) else 'same' if all(answer == answers[0] for answer in answers) else 'DIFFERENT'
+
+
+def judge(name, schema, asked, databases, rng, postgres, told):
+    """Asks each statement and its texts on so many databases, and counts the verdicts."""
+    texts = [text for three in asked for text in three]
     for _ in range(databases):
-        db, tables = database(schema, rng)
-        texts = [text for pair in pairs for text in pair]
+        db, tables = database(schema, [three[0] for three in asked], rng)
         engines = {'SQLite': [sqlite_answer(db, text) for text in texts]}
         if postgres:
             postgres.load(db, tables)
             engines['PostgreSQL'] = postgres.answers(texts)
-        for engine, answers in engines.items():
-            for i, (statement, line) in enumerate(pairs):
-                one, other = answers[2 * i], answers[2 * i + 1]
-                told[engine, 'error' if isinstance(one, str) or isinstance(other, str) else 'same' if one == other else 'DIFFERENT'] += 1
-                if isinstance(one, str) or isinstance(other, str) or one != other:
-                    print(f'{engine}, {name}:\n  {statement}\n  {line}\n  {one}\n  {other}')
-        if postgres:
-            for i, (statement, _) in enumerate(pairs):
-                one, other = engines['SQLite'][2 * i], engines['PostgreSQL'][2 * i]
-                if isinstance(one, str) or isinstance(other, str):
-                    continue
-                told['the engines on one statement', 'same' if one == other else 'DIFFERENT'] += 1
-                if one != other:
-                    print(f'the engines differ, {name}:\n  {statement}\n  {one}\n  {other}')
         db.close()
+        for i, three in enumerate(asked):
+            answers = {engine: found[3 * i:3 * i + 3] for engine, found in engines.items()}
+            answers['the engines, on one statement'] = [found[0] for found in answers.values()]
+            for engine, found in answers.items():
+                said = verdict(found)
+                told[engine, said] += 1
+                told[engine, 'with rows'] += not is_error(found[0]) and len(found[0]) > 0
+                if said != 'same':
+                    print(f'{engine}, {name}: {said}', *three, *found, sep='\n  ')
 
 
 def main():
     words = argparse.ArgumentParser()
-    words.add_argument('program', nargs='?', default=TOP / 'crates/wetune/out/wetune')
+    words.add_argument('program', nargs='?', default=TOP / 'crates/wetune/out/wetune', type=pathlib.Path)
+    words.add_argument('--rules', default=RULES, type=pathlib.Path)
     words.add_argument('--generated', type=int, default=3000)
     words.add_argument('--databases', type=int, default=4)
     words.add_argument('--seed', type=int, default=1)
     words.add_argument('--no-postgres', action='store_true')
     words = words.parse_args()
-    rng = random.Random(words.seed)
-    told = collections.Counter()
+    program, rng, told = words.program.resolve(), random.Random(words.seed), collections.Counter()
     postgres = None if words.no_postgres else Postgres()
     try:
         for name, schema, texts in cases(words.generated, rng):
-            lines = [(text, printed(words.program, schema, text)) for text in texts]
-            pairs = [(text, line) for text, line in lines if line is not None]
-            print(f'{name}: {len(texts)} statements, {len(pairs)} printed')
-            judge(name, schema, pairs, words.databases, rng, postgres, told)
+            lines = zip(texts, printed(program, NO_RULES, schema, texts), printed(program, words.rules, schema, texts))
+            asked = [three for three in lines if three[1] is not None]
+            if not asked:
+                continue
+            print(f'{name}: {len(texts)} statements, {len(asked)} printed, {sum(three[1] != three[2] for three in asked)} rewritten', flush=True)
+            judge(name, schema, asked, words.databases, rng, postgres, told)
     finally:
         if postgres:
             postgres.stop()
     for (engine, answer), count in sorted(told.items()):
         print(f'{engine}: {answer} {count}')
-    sys.exit(1 if any(answer != 'same' for engine, answer in told if engine != 'the engines on one statement') else 0)
+    sys.exit(any(answer in ('error', 'DIFFERENT') for _, answer in told))
 
 
 main()

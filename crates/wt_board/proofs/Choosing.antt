@@ -1,5 +1,5 @@
 -- Pending sets of the pairs of a lot.
-use Rattle.std.proofs.Common.{◌≡◌, ℕ, zero, suc, ◌+◌, ◌<◌, ◌≤◌, inl, inr, ◌↔◌, Bool, true≢false, IsTrue, sym, ◌∙◌, subst, arith, List, [], ◌∷◌, length, get_or}
+use Rattle.std.proofs.Common.{◌≡◌, ℕ, zero, suc, ◌+◌, ◌<◌, ◌≤◌, inl, inr, ◌↔◌, Bool, true≢false, IsTrue, refl, sym, ◌∙◌, subst, arith, List, [], ◌∷◌, length, get_or}
 use Rattle.std.specs.Prelude.{Option, Some, None, is_some, slice_get}
 use Rattle.std.proofs.lemmas.Bool.{cases_eq}
 use Rattle.wt_symbol.specs.Sides.{PairTree}
@@ -38,6 +38,10 @@ module _ (lot : LotTree) (log : List Entry) (pages : List PageTree) (p : ℕ) (p
 pub pending_told : (lot : LotTree) (st : State) (p : ℕ) (o : Option AtomSet) (b : Bool) → b ≡ is_some o → PendingOf lot st p o → (IsTrue b ↔ ((s : AtomSet) × Pending lot st p s))
 pending_told lot st p None b e h = (λ yes. absurd (true≢false (sym yes ∙ e)), λ q. absurd (h q.0 q.1))
 pending_told lot st p (Some s) b e h = (λ yes. (s, h), λ q. e)
+
+pub none_found : (lot : LotTree) (st : State) (p : ℕ) (o : Option AtomSet) → ((s : AtomSet) → o ≡ Some s → ⊥) → PendingOf lot st p o → (s : AtomSet) → Pending lot st p s → ⊥
+none_found lot st p None never h = h
+none_found lot st p (Some s) never h = absurd (never s refl)
 
 -- nothing is pending of the pairs below a number
 abbrev pub NoneBelow : LotTree → State → ℕ → Type 0

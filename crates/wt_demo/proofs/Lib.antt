@@ -1,2 +1,3 @@
 mod Counting
 pub mod Statuses
+pub mod OneDemo

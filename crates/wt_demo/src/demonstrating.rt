@@ -1,9 +1,9 @@
 //! `demo`, to a sink.
-ghost use Rattle.std.specs.Prelude.{◌≡◌, ◌≢◌, ◌≤◌, ℕ, IfOk, length, string_bytes};
+ghost use Rattle.std.specs.Prelude.{◌≡◌, ◌≢◌, ◌≤◌, ◌⊎◌, ℕ, IfOk, length, string_bytes};
 ghost use Rattle.wt_chains.specs.Chains.{AreLawful};
 ghost use Rattle.wt_ddl.specs.Schemas.{schema_of};
 ghost use Rattle.wt_io.specs.Causes.{Rose};
-ghost use Rattle.wt_outcome.specs.Outcomes.{Ends, Outcome, Runs, Writes};
+ghost use Rattle.wt_outcome.specs.Outcomes.{AppendsPrefix, Ends, Outcome, Runs, Writes};
 ghost use Rattle.wt_rewrite.specs.Books.{IsReady};
 ghost use Rattle.wt_rewriting.specs.Rewriting.{Gives};
 ghost use Rattle.wt_demo.specs.Demo as spec;
@@ -179,6 +179,7 @@ pub fn demo<K: Sink>(alloc: Global, first: u32, count: u32, sink: &mut K) -> u8
 
     // 5 comes only where the count of faults rose in this call; 6 is want of memory. After both a prefix of the text was written.
     ensures write { result ≡ 5 → Rose (K.faults sink.old) (K.faults sink.new) }
+    ensures begins { (result ≡ 5) ⊎ (result ≡ 6) → (whole : Outcome) → spec.IsWholeDemo first count whole → AppendsPrefix (K.written sink.old) (K.written sink.new) whole.text }
     ensures known { (result ≤ 6) × (result ≢ 1) × (result ≢ 3) }
 {
     match put_demo(alloc, first, count, sink) {

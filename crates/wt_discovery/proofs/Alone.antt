@@ -13,7 +13,7 @@ use Rattle.wt_outcome.specs.Outcomes.{AppendsPrefix, Outcome}
 use Rattle.wt_outcome.proofs.Putting.{prefix_more}
 
 -- a prefix of what a run may have come to is a prefix of the rule file
-discovered_prefix : (b : Bounds) (old new : Option (List ℕ)) (file : List ℕ) (o : Outcome) → IsDiscovered b o → IsFileOf b file → AppendsPrefix old new o.text → AppendsPrefix old new file
+pub discovered_prefix : (b : Bounds) (old new : Option (List ℕ)) (file : List ℕ) (o : Outcome) → IsDiscovered b o → IsFileOf b file → AppendsPrefix old new o.text → AppendsPrefix old new file
 discovered_prefix b old new file o (inl whole) is h = subst (AppendsPrefix old new) (one_file b.steps b.depth (pairs_of b) o.text file whole.0 is) h
 discovered_prefix b old new file o (inr part) is h =
     let (rest, whole) = first_pairs_begin b.steps b.depth part.0 (pairs_of b) part.1 file part.2 part.3 is in

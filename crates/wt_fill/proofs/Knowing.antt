@@ -1,5 +1,6 @@
--- Elements that are tested one after the other.
+-- What is known of the elements of a list, one after the other.
 use Rattle.std.proofs.Common.{◌≡◌, ℕ, zero, suc, ◌+◌, ◌<◌, ◌≤◌, List, [], ◌∷◌, length, get_or, take, subst, arith}
+use Rattle.std.specs.Prelude.{slice_index_or}
 use Rattle.wt_bag.specs.Bags.{Each}
 
 more : {X : Type 0} (P : X → Type 0) (d : X) (xs : List X) (k : ℕ) → k < length xs → Each P (take k xs) → P (get_or xs k d) → Each P (take (suc k) xs)
@@ -17,3 +18,9 @@ pub each_whole : {X : Type 0} (P : X → Type 0) (xs : List X) (k : ℕ) → len
 each_whole P [] k le h = tt
 each_whole P (x ∷ xs) zero le h = absurd (omega (arith, le))
 each_whole P (x ∷ xs) (suc k) le h = (h.0, each_whole P xs k (omega (arith, le)) h.1)
+
+-- what holds of each element, and of the other one past the end
+pub each_or : {X : Type 0} (P : X → Type 0) (xs : List X) (k : ℕ) (d : X) → Each P xs → P d → P (slice_index_or xs k d)
+each_or P [] k d h e = e
+each_or P (x ∷ xs) zero d h e = h.0
+each_or P (x ∷ xs) (suc k) d h e = each_or P xs k d h.1 e

@@ -1,4 +1,2 @@
-pub mod Placing
 pub mod Knowing
-pub mod NarrowNodes
-pub mod SmallLaws
+pub mod CappedLaws

@@ -3,10 +3,10 @@
 
 mod atoms;
 mod filling;
+mod given;
 mod nodes;
 mod same;
 
-pub use atoms::{are_known, is_known};
-pub use filling::{Filled, fill};
+pub use atoms::are_known;
+pub use filling::fill;
 pub use nodes::{plan_at, put_at};
-pub use same::is_same;

@@ -6,7 +6,7 @@ ghost use Rattle.wt_fill.specs.Pairs.{put_left, put_right};
 
 use std::alloc::Global;
 use wt_plan::Plan;
-use wt_value::WantOfMemory;
+use wt_value::{Cols, WantOfMemory};
 
 /// The subplan at a node.
 pub fn plan_at(plan: &Plan, node: u32) -> &Plan
@@ -29,6 +29,15 @@ pub fn plan_at(plan: &Plan, node: u32) -> &Plan
     }
 }
 
+/// Copies of two lists.
+fn both_lists(lefts: &Cols, rights: &Cols) -> Result<(Cols, Cols), WantOfMemory>
+    ensures left { IfOk result (λ both. both.0 ≡ lefts.now) }
+    ensures right { IfOk result (λ both. both.1 ≡ rights.now) }
+{
+    let copy = lefts.clone()?;
+    Ok((copy, rights.clone()?))
+}
+
 /// Both operands of a node, the subplan at a node behind it replaced.
 #[cycle(put)]
 fn put_in_one(
@@ -36,11 +45,11 @@ fn put_in_one(
     left: &Plan,
     right: &Plan,
     node: u32,
-    new: Plan,
+    new: &Plan,
 ) -> Result<(Box<Plan>, Box<Plan>), WantOfMemory>
     requires { node + 1 < 2 ^ 32 }
-    ensures left { IfOk result (λ both. plan_tree both.0.value ≡ put_left (plan_tree left.now) node (plan_tree new)) }
-    ensures right { IfOk result (λ both. plan_tree both.1.value ≡ put_right (plan_tree left.now) (plan_tree right.now) node (plan_tree new)) }
+    ensures left { IfOk result (λ both. plan_tree both.0.value ≡ put_left (plan_tree left.now) node (plan_tree new.now)) }
+    ensures right { IfOk result (λ both. plan_tree both.1.value ≡ put_right (plan_tree left.now) (plan_tree right.now) node (plan_tree new.now)) }
 {
     let count = left.node_count();
     if node < count {
@@ -55,34 +64,38 @@ fn put_in_one(
 
 /// The plan with another subplan at a node.
 #[cycle(put)]
-pub fn put_at(alloc: Global, plan: &Plan, node: u32, new: Plan) -> Result<Plan, WantOfMemory>
-    ensures { IfOk result (λ p. plan_tree p ≡ spec.put (plan_tree plan.now) node (plan_tree new)) }
+pub fn put_at(alloc: Global, plan: &Plan, node: u32, new: &Plan) -> Result<Plan, WantOfMemory>
+    ensures { IfOk result (λ p. plan_tree p ≡ spec.put (plan_tree plan.now) node (plan_tree new.now)) }
 {
     if node == 0 {
-        return Ok(new);
+        return new.copy(alloc);
     }
     match plan {
         Plan::Table(t, w) => Ok(Plan::Table(*t, *w)),
         Plan::Proj(cols, p) => {
+            let cols = cols.clone()?;
             let operand = put_at(alloc, p, node - 1, new)?;
-            Ok(Plan::Proj(cols.clone()?, Box::new(alloc, operand)?))
+            Ok(Plan::Proj(cols, Box::new(alloc, operand)?))
         }
         Plan::Filter(pred, cols, p) => {
-            let operand = put_at(alloc, p, node - 1, new)?;
-            let operand = Box::new(alloc, operand)?;
-            Ok(Plan::Filter(pred.copy(alloc)?, cols.clone()?, operand))
+            let cols = cols.clone()?;
+            let operand = Box::new(alloc, put_at(alloc, p, node - 1, new)?)?;
+            Ok(Plan::Filter(pred.copy(alloc)?, cols, operand))
         }
         Plan::InnerJoin(a, b, p, q) => {
+            let (lefts, rights) = both_lists(a, b)?;
             let (left, right) = put_in_one(alloc, p, q, node - 1, new)?;
-            Ok(Plan::InnerJoin(a.clone()?, b.clone()?, left, right))
+            Ok(Plan::InnerJoin(lefts, rights, left, right))
         }
         Plan::LeftJoin(a, b, p, q) => {
+            let (lefts, rights) = both_lists(a, b)?;
             let (left, right) = put_in_one(alloc, p, q, node - 1, new)?;
-            Ok(Plan::LeftJoin(a.clone()?, b.clone()?, left, right))
+            Ok(Plan::LeftJoin(lefts, rights, left, right))
         }
         Plan::InSub(cols, p, q) => {
+            let cols = cols.clone()?;
             let (left, right) = put_in_one(alloc, p, q, node - 1, new)?;
-            Ok(Plan::InSub(cols.clone()?, left, right))
+            Ok(Plan::InSub(cols, left, right))
         }
         Plan::Dedup(p) => {
             let operand = put_at(alloc, p, node - 1, new)?;

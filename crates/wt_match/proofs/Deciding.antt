@@ -1,26 +1,26 @@
 -- What was found is a match where each test passes, and where one fails it is none.
 use Rattle.std.proofs.Common.{◌≡◌, ℕ, ◌<◌, Bool, true, false, List, sym, ap, ◌∙◌, subst}
-use Rattle.std.specs.Prelude.{Result, Ok, Err, Option, Some, None, IfOk, IfSome, IfNone, IsTrue}
+use Rattle.std.specs.Prelude.{Option, Some, None, IfSome, IfNone, IsTrue}
 use Rattle.wt_bag.specs.Bags.{Each}
 use Rattle.wt_symbol.specs.Sides.{PairTree}
 use Rattle.wt_symbol.specs.Lawful.{IsLawful}
 use Rattle.wt_constraint.specs.declared.set.AtomSet.{AtomSet}
 use Rattle.wt_schema.specs.declared.schema.Table.{Table}
-use Rattle.wt_plan.specs.Tree.{PlanTree}
+use Rattle.wt_plan.specs.declared.plan.Plan.{Plan}
+use Rattle.wt_plan.specs.Tree.{PlanTree, plan_tree}
 use Rattle.wt_plan.specs.Measures.{width, node_count}
-use Rattle.wt_plan.specs.WellFormed.{Narrow, PlacesFit}
+use Rattle.wt_plan.specs.WellFormed.{Narrow}
 use Rattle.wt_plan.specs.Regular.{Regular}
-use Rattle.wt_matching.specs.Filling.{Assigned, fill}
+use Rattle.wt_matching.specs.Filling.{Assigned}
 use Rattle.wt_matching.specs.Nodes.{at, put}
 use Rattle.wt_matching.specs.Matching.{AtomKnown, IsMatch}
 use Rattle.wt_matching.specs.Finding.{Found, found, nothing, just}
 use Rattle.wt_matching.proofs.FindLaws.{just_same}
-use Rattle.wt_matching.proofs.Subplans.{places_put}
-use Rattle.wt_fill.specs.Small.{Filled, fill_small}
-use Rattle.wt_fill.proofs.NarrowNodes.{narrow_at, narrow_put}
-use Rattle.wt_fill.proofs.SmallLaws.{filled_plan, filled_there}
+use Rattle.wt_matching.proofs.Subplans.{narrow_at, narrow_put}
+use Rattle.wt_fill.specs.Capped.{capped_fill}
+use Rattle.wt_fill.proofs.CappedLaws.{where_filled, where_capped}
 use Rattle.wt_match.specs.Asking.{asked}
-use Rattle.wt_match.specs.Matched.{made_by}
+use Rattle.wt_match.specs.Matched.{made_by, GivesAt}
 use Rattle.wt_match.proofs.Asked.{asked_known, known_asked}
 use Rattle.wt_match.proofs.Matches.{given, found_narrow, is_match, match_found}
 
@@ -36,21 +36,23 @@ module _ (S : List Table) (p : PairTree) (set : AtomSet) (lawful : IsLawful p) (
     pub no_atoms : (Each (AtomKnown S p.anchors (given x)) (asked p set) → ⊥) → IsMatch S p set plan n (given x) → ⊥
     no_atoms k h = k (known_asked (AtomKnown S p.anchors (given x)) p set h.atoms)
 
-    pub no_fill : n < node_count plan → nothing ≡ fill_small p.dest p.anchors (given x) → IsMatch S p set plan n (given x) → ⊥
-    no_fill within e h =
-        let dest = fill p.dest p.anchors (given x) in
-        let places : PlacesFit dest = places_put plan n dest within h.regular.well_formed.places in
-        let narrow : Narrow dest = narrow_put plan n dest within h.regular.well_formed.narrow in
-        let there = filled_there p.anchors (given x) p.dest places narrow in
-        nothing_just there.0 (e ∙ there.1)
+    -- the plan that was made is the one that a match makes, where either is regular
+    made_where_regular : n < node_count plan → (q : PlanTree) → q ≡ put plan n (capped_fill p.dest p.anchors (given x)) → Regular S q → q ≡ made_by p plan n (given x)
+    made_where_regular within q e regular =
+        let narrow = narrow_put plan n _ within (subst Narrow e regular.well_formed.narrow) in
+        e ∙ ap (put plan n) (where_capped p.anchors (given x) p.dest narrow)
 
-    pub made_is : (y : Filled) → just y ≡ fill_small p.dest p.anchors (given x) → (q : PlanTree) → q ≡ put plan n y.plan → q ≡ made_by p plan n (given x)
-    made_is y e q f = f ∙ ap (put plan n) (filled_plan p.anchors (given x) p.dest y (sym e))
+    made_where_match : n < node_count plan → (q : PlanTree) → q ≡ put plan n (capped_fill p.dest p.anchors (given x)) → IsMatch S p set plan n (given x) → q ≡ made_by p plan n (given x)
+    made_where_match within q e h =
+        let narrow = narrow_put plan n _ within h.regular.well_formed.narrow in
+        e ∙ ap (put plan n) (where_filled p.anchors (given x) p.dest narrow)
 
-    pub no_regular : (q : PlanTree) → q ≡ made_by p plan n (given x) → (Regular S q → width q ≡ width plan → ⊥) → IsMatch S p set plan n (given x) → ⊥
-    no_regular q e k h = k (subst (Regular S) (sym e) h.regular) (ap width e ∙ h.wide)
+    no_regular : n < node_count plan → (q : PlanTree) → q ≡ put plan n (capped_fill p.dest p.anchors (given x)) → (Regular S q → width q ≡ width plan → ⊥) → IsMatch S p set plan n (given x) → ⊥
+    no_regular within q e k h =
+        let made = made_where_match within q e h in
+        k (subst (Regular S) (sym made) h.regular) (ap width made ∙ h.wide)
 
-    pub is_a_match : n < node_count plan → Each (AtomKnown S p.anchors (given x)) (asked p set) → (q : PlanTree) → q ≡ made_by p plan n (given x) → Regular S q → width q ≡ width plan → IsMatch S p set plan n (given x)
+    is_a_match : n < node_count plan → Each (AtomKnown S p.anchors (given x)) (asked p set) → (q : PlanTree) → q ≡ made_by p plan n (given x) → Regular S q → width q ≡ width plan → IsMatch S p set plan n (given x)
     is_a_match within known q e regular wide =
         is_match p lawful S set plan n x within walked (λ k a has get. asked_known (AtomKnown S p.anchors (given x)) p set known k a has get)
         (subst (Regular S) e regular) (ap width (sym e) ∙ wide)
@@ -61,31 +63,17 @@ module _ (S : List Table) (p : PairTree) (set : AtomSet) (lawful : IsLawful p) (
         let same : seen.0 ≡ x = just_same seen.0 x (sym seen.1 ∙ walked) in
         k (subst (λ z. IsMatch S p set plan n z) (seen.2 ∙ ap given same) h)
 
+    -- the plan that was made, where it is regular and as wide
+    pub gives_regular : n < node_count plan → Each (AtomKnown S p.anchors (given x)) (asked p set) → (q : PlanTree) → q ≡ put plan n (capped_fill p.dest p.anchors (given x)) → (o : Option Plan) →
+        IfSome o (λ r. plan_tree r ≡ q) → IfSome o (λ r. Regular S q) → IfSome o (λ r. width q ≡ width plan) → IfNone o (Regular S q → width q ≡ width plan → ⊥) →
+        GivesAt S p set plan n o
+    gives_regular within known q e (Some r) is regular wide none =
+        let made = made_where_regular within q e regular in
+        (given x, is_a_match within known q made regular wide, is ∙ made)
+    gives_regular within known q e None is regular wide none = only_found (no_regular within q e none)
+
   pub none_found : nothing ≡ found p.source p.anchors (at plan n) → (m : Assigned) → IsMatch S p set plan n m → ⊥
   none_found e m h = let seen = match_found p lawful S set plan n m h in nothing_just seen.0 (e ∙ seen.1)
-
--- answers that may be Err or None
-pub ok_some : {X E : Type 0} (P Q R : X → Type 0) (r : Result (Option X) E) → IfOk r (λ o. IfSome o P) → IfOk r (λ o. IfSome o Q) → ((x : X) → P x → Q x → R x) → IfOk r (λ o. IfSome o R)
-ok_some P Q R (Ok (Some x)) h k f = f x h k
-ok_some P Q R (Ok None) h k f = tt
-ok_some P Q R (Err e) h k f = tt
-
-pub ok_none : {X E : Type 0} (P Q : Type 0) (r : Result (Option X) E) → IfOk r (λ o. IfNone o P) → (P → Q) → IfOk r (λ o. IfNone o Q)
-ok_none P Q (Ok None) h f = f h
-ok_none P Q (Ok (Some x)) h f = tt
-ok_none P Q (Err e) h f = tt
-
-pub some_both : {X : Type 0} (P Q R : X → Type 0) (o : Option X) → IfSome o P → IfSome o Q → ((x : X) → P x → Q x → R x) → IfSome o R
-some_both P Q R (Some x) h k f = f x h k
-some_both P Q R None h k f = tt
-
-pub none_then : {X : Type 0} (P Q : Type 0) (o : Option X) → IfNone o P → (P → Q) → IfNone o Q
-none_then P Q None h f = f h
-none_then P Q (Some x) h f = tt
-
-pub some_then : {X : Type 0} (P Q : X → Type 0) (o : Option X) → IfSome o P → ((x : X) → P x → Q x) → IfSome o Q
-some_then P Q (Some x) h f = f x h
-some_then P Q None h f = tt
 
 pub not_true : (b : Bool) → b ≡ false → IsTrue b → ⊥
 not_true true e h = cc

@@ -4,5 +4,5 @@
 mod applying;
 mod asking;
 
-pub use applying::{applied, made_at};
+pub use applying::{applied, match_at};
 pub use asking::asked_atoms;

@@ -25,6 +25,7 @@ use Rattle.wt_instance.specs.Rows.{Named, cell, values, names, value_at, values_
 use Rattle.wt_value.specs.Values.{pick}
 use Rattle.wt_instance.proofs.Columns.{rows_named, distinct_values}
 use Rattle.wt_plan.specs.Tree as plans
+use Rattle.wt_plan.specs.Tree.{PlanTree}
 use Rattle.wt_plan.specs.Measures.{width}
 use Rattle.wt_plan.specs.Rows.{plan_rows, null_row}
 use Rattle.wt_known.proofs.Agreeing.{or_null_row}
@@ -63,7 +64,7 @@ pick_placed columns row r ns e =
     ∙ map_ext (λ n. at_place (values row) (place columns r n)) (value_at row r) ns
     (λ n. sym (value_placed row r n ∙ ap (λ (cs : List Column). at_place (values row) (place cs r n)) e))
 
-length_leaf_columns : (r n k : ℕ) → length (leaf_columns r n k) ≡ k
+pub length_leaf_columns : (r n k : ℕ) → length (leaf_columns r n k) ≡ k
 length_leaf_columns r n zero = refl
 length_leaf_columns r n (suc k) = ap suc (length_leaf_columns r (suc n) k)
 
@@ -105,19 +106,27 @@ header_is base A m (sides.left_join a b s t) = both_parts _ _ _ _ (header_is bas
 header_is base A m (sides.in_sub a s t) = header_is base A m s
 header_is base A m (sides.dedup s) = header_is base A m s
 
+-- the width of a leaf, none past the last leaf
+pub leaf_width : (leaves : List PlanTree) (r : ℕ) → slice_index_or (map width leaves) r 0 ≡ width (slice_index_or leaves r (plans.table 0 0))
+leaf_width [] r = refl
+leaf_width (p ∷ leaves) zero = refl
+leaf_width (p ∷ leaves) (suc r) = leaf_width leaves r
+
+pub header_leaf : (A : List ℕ) (m : Assigned) (r : ℕ) → width (leaf_plan m r) ≡ length (header (sides.input r) A m)
+header_leaf A m r = sym (length_leaf_columns r 0 (slice_index_or (map width m.leaves) r 0) ∙ leaf_width m.leaves r)
+
 -- a side filled in is as wide as its header
-sum_same : (x y : ℕ) (xs ys : List Column) → x ≡ length xs → y ≡ length ys → x + y ≡ length (xs ++ ys)
+pub sum_same : (x y : ℕ) (xs ys : List Column) → x ≡ length xs → y ≡ length ys → x + y ≡ length (xs ++ ys)
 sum_same x y xs ys e f = let both = length_append xs ys in omega (arith, e, f, both)
 
-pub fill_width : (A : List ℕ) (m : Assigned) (s : SideTree) → Covers m s → width (fill s A m) ≡ length (header s A m)
-fill_width A m (sides.input r) c =
-    sym (length_leaf_columns r 0 (slice_index_or (map width m.leaves) r 0) ∙ index_map width m.leaves r (plans.table 0 0) 0 c)
-fill_width A m (sides.proj a s) c = length_map _ (slice_index_or m.lists a []) ∙ sym (length_map _ (slice_index_or m.lists a []))
-fill_width A m (sides.filtered p a s) c = fill_width A m s c.2
-fill_width A m (sides.inner_join a b s t) c = sum_same _ _ (header s A m) (header t A m) (fill_width A m s c.2) (fill_width A m t c.3)
-fill_width A m (sides.left_join a b s t) c = sum_same _ _ (header s A m) (header t A m) (fill_width A m s c.2) (fill_width A m t c.3)
-fill_width A m (sides.in_sub a s t) c = fill_width A m s c.1
-fill_width A m (sides.dedup s) c = fill_width A m s c
+pub fill_width : (A : List ℕ) (m : Assigned) (s : SideTree) → width (fill s A m) ≡ length (header s A m)
+fill_width A m (sides.input r) = header_leaf A m r
+fill_width A m (sides.proj a s) = length_map _ (slice_index_or m.lists a []) ∙ sym (length_map _ (slice_index_or m.lists a []))
+fill_width A m (sides.filtered p a s) = fill_width A m s
+fill_width A m (sides.inner_join a b s t) = sum_same _ _ (header s A m) (header t A m) (fill_width A m s) (fill_width A m t)
+fill_width A m (sides.left_join a b s t) = sum_same _ _ (header s A m) (header t A m) (fill_width A m s) (fill_width A m t)
+fill_width A m (sides.in_sub a s t) = fill_width A m s
+fill_width A m (sides.dedup s) = fill_width A m s
 
 module _ (base : List (List Tuple)) (A : List ℕ) (m : Assigned) where
   abbrev I : Instance
@@ -261,7 +270,7 @@ module _ (base : List (List Tuple)) (A : List ℕ) (m : Assigned) where
         (each_implies (λ v. pick (places s A m a) (values v) ≡ values_at A I a v)
         (λ v. or_null_row (width (fill t A m)) (values v) (pairs (places s A m a) (places t A m b) (values v) (plan_rows base (fill t A m))) ≡ map values (or_nulls v (columns_of t A I) (joined A I a b v (named_rows t A I)))) (named_rows s A I)
         (λ v e. ap (λ (l : List Tuple). or_null_row (width (fill t A m)) (values v) l) (pairs_same (places s A m a) (places t A m b) a b v (plan_rows base (fill t A m)) (named_rows t A I) (fill_rows t c.3) e (all_picked t b))
-        ∙ or_same (width (fill t A m)) v (columns_of t A I) (joined A I a b v (named_rows t A I)) (fill_width A m t c.3 ∙ ap length (header_is base A m t))) (all_picked s a))
+        ∙ or_same (width (fill t A m)) v (columns_of t A I) (joined A I a b v (named_rows t A I)) (fill_width A m t ∙ ap length (header_is base A m t))) (all_picked s a))
     fill_rows (sides.in_sub a s t) c =
         kept_same (λ left. list_any (λ right. row_matches (pick (places s A m a) left) right) (plan_rows base (fill t A m))) (λ v. list_any (λ w. row_matches (values_at A I a v) (values w)) (named_rows t A I)) _ (named_rows s A I) (fill_rows s c.1)
         (each_implies (λ v. pick (places s A m a) (values v) ≡ values_at A I a v) (λ v. list_any (λ right. row_matches (pick (places s A m a) (values v)) right) (plan_rows base (fill t A m)) ≡ list_any (λ w. row_matches (values_at A I a v) (values w)) (named_rows t A I)) (named_rows s A I)

@@ -266,7 +266,7 @@ each_list (sides.dedup s) A m h = each_list s A m h
 placed_numbers : (s : SideTree) (A : List ℕ) (m : Assigned) (a : ℕ) → Covers m s → Each (λ k. k < width (fill s A m)) (places s A m a) → IsPlaced s A m a
 placed_numbers s A m a c h =
     each_implies (λ n. place (header s A m) (anchor A a) n < width (fill s A m)) (λ n. place (header s A m) (anchor A a) n < length (header s A m)) (list_of m a)
-    (λ n k. subst (λ w. place (header s A m) (anchor A a) n < w) (fill_width A m s c) k) (each_of_map (λ k. k < width (fill s A m)) (place (header s A m) (anchor A a)) (list_of m a) h)
+    (λ n k. subst (λ w. place (header s A m) (anchor A a) n < w) (fill_width A m s) k) (each_of_map (λ k. k < width (fill s A m)) (place (header s A m) (anchor A a)) (list_of m a) h)
 
 pub are_placed : (s : SideTree) (A : List ℕ) (m : Assigned) → Covers m s → PlacesFit (fill s A m) → ArePlaced s A m
 are_placed (sides.input r) A m c h = tt
@@ -286,7 +286,7 @@ are_even (sides.proj a s) A m c h = are_even s A m c.1 h.1
 are_even (sides.filtered p a s) A m c h = are_even s A m c.2 h.2
 are_even (sides.inner_join a b s t) A m c h = (same_length _ _ (list_of m a) (list_of m b) h.0.equally_many, are_even s A m c.2 h.1, are_even t A m c.3 h.2)
 are_even (sides.left_join a b s t) A m c h = (same_length _ _ (list_of m a) (list_of m b) h.0.equally_many, are_even s A m c.2 h.1, are_even t A m c.3 h.2)
-are_even (sides.in_sub a s t) A m c h = (sym (length_map _ (list_of m a)) ∙ h.1 ∙ fill_width A m t c.2, are_even s A m c.1 h.2, are_even t A m c.2 h.3)
+are_even (sides.in_sub a s t) A m c h = (sym (length_map _ (list_of m a)) ∙ h.1 ∙ fill_width A m t, are_even s A m c.1 h.2, are_even t A m c.2 h.3)
 are_even (sides.dedup s) A m c h = are_even s A m c h
 
 -- Numbers that come from a leaf are within its width.

@@ -80,4 +80,4 @@ same_width S p set plan n m sound found cs cd ca filled inside ps pd es ed =
       source = come_is p.anchors m p.source ∙ found.source_lists;
       dest = come_is p.anchors m p.dest ∙ found.dest_lists;
     } in
-    fill_width p.anchors m p.source cs ∙ same_header_length p.anchors m p.source p.dest cs cd ps pd es ed (sound (one_row_each m) is meets) ∙ sym (fill_width p.anchors m p.dest cd)
+    fill_width p.anchors m p.source ∙ same_header_length p.anchors m p.source p.dest cs cd ps pd es ed (sound (one_row_each m) is meets) ∙ sym (fill_width p.anchors m p.dest)

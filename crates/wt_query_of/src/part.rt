@@ -1,16 +1,19 @@
 //! A FROM clause with its items, from its parts.
-ghost use Rattle.std.specs.Prelude.{◌≡◌, ◌++◌, ◌+◌, ◌<◌, ◌^◌, List, [], ◌∷◌, map, Some, IfOk};
+ghost use Rattle.std.specs.Prelude.{◌≡◌, ◌++◌, ◌+◌, ◌<◌, ◌^◌, List, [], ◌∷◌, map, None, Some, IfOk, OnOk};
 ghost use Rattle.wt_schema.specs.declared.schema.Table.{Table};
 ghost use Rattle.wt_ast.specs.Tree.{query_tree, from_tree, condition_tree, select, table, derived, inner_join, left_join, in_query};
+ghost use Rattle.wt_pred.specs.Tree.{pred_tree};
 ghost use Rattle.wt_query_rows.specs.Scopes.{in_scope};
 ghost use Rattle.wt_blocks.specs.Printed as spec;
 ghost use Rattle.wt_tree_parts.specs.Leaves.{scope_of_leaves};
 
 use std::alloc::Global;
 use wt_ast::{ColumnNames, CondKind, Condition, FromPart, Items, Query};
+use wt_pred::Pred;
 use wt_schema::Schema;
 use wt_tree_parts::{
-    Leaf, LeafColumns, Sight, alias_of, place_names, push_pairs, table_name, together, where_of,
+    Leaf, LeafColumns, Sight, alias_of, columns_at, place_names, plain, push_pairs, star,
+    table_name, test, together, where_of, with_names,
 };
 use wt_value::{Cols, Name, Names, WantOfMemory};
 
@@ -19,6 +22,14 @@ use wt_value::{Cols, Name, Names, WantOfMemory};
 pub(crate) struct Part {
     pub from: FromPart,
     pub leaves: Vec<Leaf>,
+}
+
+/// A zone: its FROM clause with its items, and its conditions.
+#[derive(Drop)]
+pub(crate) struct Zone {
+    pub from: FromPart,
+    pub leaves: Vec<Leaf>,
+    pub conditions: Vec<Condition>,
 }
 
 /// The next number of a FROM item.
@@ -208,26 +219,37 @@ pub(crate) fn left_part(
     a: &Cols,
     b: &Cols,
     left: Part,
-    right: Part,
-    conditions: Vec<Condition>,
+    right: Zone,
 ) -> Result<Part, WantOfMemory>
-    ensures from { IfOk result (λ p. from_tree p.from ≡ left_join (from_tree left.from) (from_tree right.from) (spec.together (spec.pair_trees (scope_of_leaves schema.now.tables left.leaves.items) (scope_of_leaves schema.now.tables right.leaves.items) a.now b.now ++ map condition_tree conditions.items)) 0) }
+    ensures from { IfOk result (λ p. from_tree p.from ≡ left_join (from_tree left.from) (from_tree right.from) (spec.together (spec.pair_trees (scope_of_leaves schema.now.tables left.leaves.items) (scope_of_leaves schema.now.tables right.leaves.items) a.now b.now ++ map condition_tree right.conditions.items)) 0) }
     ensures columns { IfOk result (λ p. scope_of_leaves schema.now.tables p.leaves.items ≡ scope_of_leaves schema.now.tables left.leaves.items ++ scope_of_leaves schema.now.tables right.leaves.items) }
 {
     let on = pairs(alloc, schema, a, b, &left.leaves, &right.leaves)?;
-    let on = longer(on, conditions)?;
+    let on = longer(on, right.conditions)?;
     let on = together(alloc, on)?;
     let from = left_from(alloc, left.from, right.from, on)?;
     let leaves = both(left.leaves, right.leaves)?;
     Ok(Part { from, leaves })
 }
 
-/// `columns IN (query)`.
-pub(crate) fn member(
+/// Adds a test of columns.
+pub(crate) fn push_test(
     alloc: Global,
-    columns: ColumnNames,
-    query: Query,
-) -> Result<Condition, WantOfMemory>
+    schema: &Schema,
+    leaves: &[Leaf],
+    cols: &Cols,
+    pred: &Pred,
+    conditions: &mut Vec<Condition>,
+) -> Result<(), WantOfMemory>
+    ensures { OnOk result (map condition_tree conditions.new.items ≡ map condition_tree conditions.old.items ++ spec.test_tree (scope_of_leaves schema.now.tables leaves.now) cols.now (pred_tree pred.now) ∷ []) }
+{
+    let sight = Sight { schema, leaves };
+    let condition = test(alloc, &sight, cols.as_slice(), pred)?;
+    Ok(conditions.push(condition)?)
+}
+
+/// `columns IN (query)`.
+fn member(alloc: Global, columns: ColumnNames, query: Query) -> Result<Condition, WantOfMemory>
     ensures { IfOk result (λ c. condition_tree c ≡ in_query 0 columns (query_tree query) 0) }
 {
     let query = Box::new(alloc, query)?;
@@ -235,6 +257,23 @@ pub(crate) fn member(
         at: 0,
         kind: CondKind::InQuery(columns, query, 0),
     })
+}
+
+/// Adds `columns IN (query)`.
+pub(crate) fn push_member(
+    alloc: Global,
+    schema: &Schema,
+    leaves: &[Leaf],
+    cols: &Cols,
+    query: Query,
+    conditions: &mut Vec<Condition>,
+) -> Result<(), WantOfMemory>
+    ensures { OnOk result (map condition_tree conditions.new.items ≡ map condition_tree conditions.old.items ++ in_query 0 (spec.columns_at (scope_of_leaves schema.now.tables leaves.now) cols.now) (query_tree query) 0 ∷ []) }
+{
+    let sight = Sight { schema, leaves };
+    let columns = columns_at(alloc, &sight, cols.as_slice())?;
+    let condition = member(alloc, columns, query)?;
+    Ok(conditions.push(condition)?)
 }
 
 /// A query of its clauses.
@@ -255,4 +294,49 @@ pub(crate) fn finished(
         from,
         filter,
     })
+}
+
+/// `SELECT [DISTINCT] *` from a zone.
+pub(crate) fn all_columns(alloc: Global, distinct: bool, zone: Zone) -> Result<Query, WantOfMemory>
+    ensures { IfOk result (λ q. query_tree q ≡ select distinct (spec.items_of None []) (from_tree zone.from) (spec.where_of (map condition_tree zone.conditions.items))) }
+{
+    let items = star(alloc)?;
+    finished(alloc, distinct, items, zone.from, zone.conditions)
+}
+
+/// `SELECT [DISTINCT]` of columns from a zone.
+pub(crate) fn some_columns(
+    alloc: Global,
+    schema: &Schema,
+    distinct: bool,
+    cols: &Cols,
+    zone: Zone,
+) -> Result<Query, WantOfMemory>
+    ensures { IfOk result (λ q. query_tree q ≡ select distinct (spec.items_of (Some cols.now) (scope_of_leaves schema.now.tables zone.leaves.items)) (from_tree zone.from) (spec.where_of (map condition_tree zone.conditions.items))) }
+{
+    let sight = Sight {
+        schema,
+        leaves: &zone.leaves,
+    };
+    let items = plain(alloc, &sight, cols.as_slice())?;
+    finished(alloc, distinct, items, zone.from, zone.conditions)
+}
+
+/// `SELECT [DISTINCT]` of columns with names from a zone.
+pub(crate) fn named_columns(
+    alloc: Global,
+    schema: &Schema,
+    distinct: bool,
+    cols: &Cols,
+    names: &[Name],
+    zone: Zone,
+) -> Result<Query, WantOfMemory>
+    ensures { IfOk result (λ q. query_tree q ≡ select distinct (spec.named_items (scope_of_leaves schema.now.tables zone.leaves.items) cols.now names.now) (from_tree zone.from) (spec.where_of (map condition_tree zone.conditions.items))) }
+{
+    let sight = Sight {
+        schema,
+        leaves: &zone.leaves,
+    };
+    let items = with_names(alloc, &sight, cols.as_slice(), names)?;
+    finished(alloc, distinct, items, zone.from, zone.conditions)
 }

@@ -16,14 +16,15 @@ ghost use Rattle.wt_blocks.specs.Blocks.{block, zone_of, plan_block, distinct};
 ghost use Rattle.wt_blocks.specs.Counting.{from_items, condition_items};
 ghost use Rattle.wt_blocks.specs.Parts.{PlanParts};
 ghost use Rattle.wt_blocks.specs.Printed as spec;
+ghost use Rattle.wt_tree_parts.specs.Leaves.{scope_of_leaves};
 
-use crate::part::{derived_from, finished};
+use crate::part::{Zone, all_columns, derived_from, finished, named_columns};
 use crate::walk::{starred, zone};
 use std::alloc::Global;
 use wt_ast::Query;
 use wt_plan::{Named, Plan};
 use wt_schema::Schema;
-use wt_tree_parts::{Sight, alias_of, have_names, star, with_names};
+use wt_tree_parts::{Sight, alias_of, have_names, star};
 use wt_value::{Cols, Name, Names, WantOfMemory};
 
 /// Columns of a zone under these names.
@@ -41,14 +42,8 @@ fn named_list(
     ensures { IfOk result (λ q. query_tree q ≡ spec.named_tree schema.now.tables (block once (Some cols.now) (zone_of (plan_tree plan.now))) names.now) }
 {
     let mut next: u64 = 0;
-    let mut conditions = Vec::new(alloc);
-    let zone = zone(alloc, schema, plan, &mut next, &mut conditions)?;
-    let sight = Sight {
-        schema,
-        leaves: &zone.leaves,
-    };
-    let items = with_names(alloc, &sight, cols.as_slice(), names)?;
-    finished(alloc, once, items, zone.from, conditions)
+    let zone = zone(alloc, schema, plan, &mut next)?;
+    named_columns(alloc, schema, once, cols, names, zone)
 }
 
 /// All columns of a zone, under other names than its own: these stand in the column list of a derived table.
@@ -71,6 +66,24 @@ fn renamed(
     finished(alloc, once, items, from, Vec::new(alloc))
 }
 
+/// Whether the columns of a zone have these names, of which there are as many.
+fn are_names_of(
+    alloc: Global,
+    schema: &Schema,
+    zone: &Zone,
+    names: &Names,
+) -> Result<bool, WantOfMemory>
+    requires few { length names.now < 2 ^ 32 }
+    requires as_many { length (scope_of_leaves schema.now.tables zone.now.leaves.items) ≡ length names.now }
+    ensures { IfOk result (λ same. same ≡ spec.have_names (scope_of_leaves schema.now.tables zone.now.leaves.items) names.now) }
+{
+    let sight = Sight {
+        schema,
+        leaves: &zone.leaves,
+    };
+    have_names(alloc, &sight, names.as_slice())
+}
+
 /// All columns of a zone under these names.
 fn starred_root(
     alloc: Global,
@@ -87,17 +100,12 @@ fn starred_root(
     ensures { IfOk result (λ q. query_tree q ≡ spec.named_tree schema.now.tables (block once None (zone_of (plan_tree plan.now))) names.now) }
 {
     let mut next: u64 = 0;
-    let mut conditions = Vec::new(alloc);
-    let zone = zone(alloc, schema, plan, &mut next, &mut conditions)?;
-    let sight = Sight {
-        schema,
-        leaves: &zone.leaves,
-    };
-    if have_names(alloc, &sight, names.as_slice())? {
-        let items = star(alloc)?;
-        return finished(alloc, once, items, zone.from, conditions);
+    let zone = zone(alloc, schema, plan, &mut next)?;
+    if are_names_of(alloc, schema, &zone, names)? {
+        all_columns(alloc, once, zone)
+    } else {
+        renamed(alloc, schema, once, plan, names)
     }
-    renamed(alloc, schema, once, plan, names)
 }
 
 /// The distinct rows of a plan under these names.

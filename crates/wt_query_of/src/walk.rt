@@ -11,12 +11,14 @@ ghost use Rattle.wt_blocks.specs.Printed as spec;
 ghost use Rattle.wt_tree_parts.specs.Leaves.{scope_of_leaves};
 
 use crate::counting::counted;
-use crate::part::{Part, derived_part, finished, inner_part, left_part, member, table_part, taken};
+use crate::part::{
+    Part, Zone, all_columns, derived_part, inner_part, left_part, push_member, push_test,
+    some_columns, table_part, taken,
+};
 use std::alloc::Global;
 use wt_ast::{Condition, Query};
 use wt_plan::Plan;
 use wt_schema::Schema;
-use wt_tree_parts::{Sight, columns_at, plain, star, test};
 use wt_value::{Cols, WantOfMemory};
 
 /// The FROM clause of a zone, whose items are numbered from `next` on; its conditions are added, and the items in their
@@ -57,22 +59,13 @@ fn part(
         }
         Plan::Filter(pred, cols, inner) => {
             let zone = part(alloc, schema, inner, next, behind, conditions)?;
-            let sight = Sight {
-                schema,
-                leaves: &zone.leaves,
-            };
-            conditions.push(test(alloc, &sight, cols.as_slice(), pred)?)?;
+            push_test(alloc, schema, &zone.leaves, cols, pred, conditions)?;
             Ok(zone)
         }
         Plan::InSub(cols, left, right) => {
             let zone = part(alloc, schema, left, next, behind, conditions)?;
-            let sight = Sight {
-                schema,
-                leaves: &zone.leaves,
-            };
-            let columns = columns_at(alloc, &sight, cols.as_slice())?;
             let query = whole_block(alloc, schema, right, behind)?;
-            conditions.push(member(alloc, columns, query)?)?;
+            push_member(alloc, schema, &zone.leaves, cols, query, conditions)?;
             Ok(zone)
         }
         Plan::InnerJoin(a, b, left, right) => {
@@ -82,34 +75,37 @@ fn part(
         }
         Plan::LeftJoin(a, b, left, right) => {
             let one = part(alloc, schema, left, next, behind, conditions)?;
-            let mut on = Vec::new(alloc);
-            let other = zone(alloc, schema, right, next, &mut on)?;
-            left_part(alloc, schema, a, b, one, other, on)
+            let other = zone(alloc, schema, right, next)?;
+            left_part(alloc, schema, a, b, one, other)
         }
     }
 }
 
-/// The FROM clause of a zone whose conditions stand directly behind it; they are added.
+/// A zone whose conditions stand directly behind its FROM clause.
 #[cycle(walk)]
 pub(crate) fn zone(
     alloc: Global,
     schema: &Schema,
     plan: &Plan,
     next: &mut u64,
-    conditions: &mut Vec<Condition>,
-) -> Result<Part, WantOfMemory>
+) -> Result<Zone, WantOfMemory>
     requires narrow { Narrow (plan_tree plan.now) }
     requires cheap { cost (plan_tree plan.now) < 2 ^ 62 }
     requires room { next.old + (from_items (zone_of (plan_tree plan.now)) + condition_items (zone_of (plan_tree plan.now))) < 2 ^ 62 }
-    ensures from { IfOk result (λ p. trees.from_tree p.from ≡ spec.from_tree schema.now.tables next.old (zone_of (plan_tree plan.now))) }
-    ensures columns { IfOk result (λ p. scope_of_leaves schema.now.tables p.leaves.items ≡ spec.zone_columns schema.now.tables next.old (zone_of (plan_tree plan.now))) }
-    ensures conditions { OnOk result (map condition_tree conditions.new.items ≡ map condition_tree conditions.old.items ++ spec.condition_trees schema.now.tables next.old (next.old + from_items (zone_of (plan_tree plan.now))) (zone_of (plan_tree plan.now))) }
+    ensures from { IfOk result (λ z. trees.from_tree z.from ≡ spec.from_tree schema.now.tables next.old (zone_of (plan_tree plan.now))) }
+    ensures columns { IfOk result (λ z. scope_of_leaves schema.now.tables z.leaves.items ≡ spec.zone_columns schema.now.tables next.old (zone_of (plan_tree plan.now))) }
+    ensures conditions { IfOk result (λ z. map condition_tree z.conditions.items ≡ spec.condition_trees schema.now.tables next.old (next.old + from_items (zone_of (plan_tree plan.now))) (zone_of (plan_tree plan.now))) }
     ensures next { OnOk result (next.new ≡ next.old + (from_items (zone_of (plan_tree plan.now)) + condition_items (zone_of (plan_tree plan.now)))) }
 {
     let mut behind = *next + counted(plan).from;
-    let zone = part(alloc, schema, plan, next, &mut behind, conditions)?;
+    let mut conditions = Vec::new(alloc);
+    let Part { from, leaves } = part(alloc, schema, plan, next, &mut behind, &mut conditions)?;
     *next = behind;
-    Ok(zone)
+    Ok(Zone {
+        from,
+        leaves,
+        conditions,
+    })
 }
 
 /// `SELECT [DISTINCT] *` from a zone.
@@ -127,10 +123,8 @@ pub(crate) fn starred(
     ensures tree { IfOk result (λ q. query_tree q ≡ spec.block_tree schema.now.tables next.old (block once None (zone_of (plan_tree plan.now)))) }
     ensures next { OnOk result (next.new ≡ next.old + (from_items (zone_of (plan_tree plan.now)) + condition_items (zone_of (plan_tree plan.now)))) }
 {
-    let mut conditions = Vec::new(alloc);
-    let zone = zone(alloc, schema, plan, next, &mut conditions)?;
-    let items = star(alloc)?;
-    finished(alloc, once, items, zone.from, conditions)
+    let zone = zone(alloc, schema, plan, next)?;
+    all_columns(alloc, once, zone)
 }
 
 /// `SELECT [DISTINCT]` of columns from a zone.
@@ -149,14 +143,8 @@ fn listed(
     ensures tree { IfOk result (λ q. query_tree q ≡ spec.block_tree schema.now.tables next.old (block once (Some cols.now) (zone_of (plan_tree plan.now)))) }
     ensures next { OnOk result (next.new ≡ next.old + (from_items (zone_of (plan_tree plan.now)) + condition_items (zone_of (plan_tree plan.now)))) }
 {
-    let mut conditions = Vec::new(alloc);
-    let zone = zone(alloc, schema, plan, next, &mut conditions)?;
-    let sight = Sight {
-        schema,
-        leaves: &zone.leaves,
-    };
-    let items = plain(alloc, &sight, cols.as_slice())?;
-    finished(alloc, once, items, zone.from, conditions)
+    let zone = zone(alloc, schema, plan, next)?;
+    some_columns(alloc, schema, once, cols, zone)
 }
 
 /// The distinct rows of a plan.

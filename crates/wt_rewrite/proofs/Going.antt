@@ -1,8 +1,7 @@
--- A chain goes on by the first match that was found.
+-- The first match that was found, applied, is one step along the chain.
 use Rattle.std.proofs.Common.{◌≡◌, ◌<◌, List, [], ◌∷◌, ◌++◌, append_assoc, sym, ap, ◌∙◌, subst}
 use Rattle.wt_schema.specs.declared.schema.Table.{Table}
 use Rattle.wt_schema.specs.Lawful.{IsSchema}
-use Rattle.wt_symbol.specs.Sides.{pair_of}
 use Rattle.wt_rule.specs.declared.Rule.{Rule}
 use Rattle.wt_plan.specs.Tree.{PlanTree, plan_tree}
 use Rattle.wt_plan.specs.Measures.{cost}
@@ -13,28 +12,33 @@ use Rattle.wt_place.specs.Keeping.{ConditionsFit}
 use Rattle.wt_place.proofs.Fitting.{conditions_fit}
 use Rattle.wt_place.proofs.Regularity.{regular_placed}
 use Rattle.wt_chains.specs.declared.applied.Applied.{Applied}
-use Rattle.wt_chains.specs.Chains.{AreLawful, IsChain, goes, made}
+use Rattle.wt_chains.specs.Chains.{AreLawful, IsChain, goes}
 use Rattle.wt_chains.proofs.Chained.{cheaper}
 use Rattle.wt_rewrite.specs.declared.first.Hit.{Hit}
+use Rattle.wt_rewrite.specs.declared.rewriting.Rewritten.{Rewritten}
 use Rattle.wt_rewrite.specs.Search.{step_of, IsFirstHit}
+use Rattle.wt_rewrite.specs.Going.{HasGoneOn}
 
-module _ (S : List Table) (rules : List Rule) (plan next : PlanTree) (h : Hit) (f : IsFirstHit S rules plan h) where
-  pub hit_fits : ConditionsFit (plan_tree h.plan)
-  hit_fits = conditions_fit (plan_tree h.plan) (subst PlacesFit (sym f.made) f.first.is.matches.regular.well_formed.places)
+module _ (S : List Table) (rules : List Rule) where
+  pub hit_fits : (plan : PlanTree) (h : Hit) → IsFirstHit S rules plan h → ConditionsFit (plan_tree h.plan)
+  hit_fits plan h f = conditions_fit (plan_tree h.plan) (subst PlacesFit (sym f.made) f.first.is.matches.regular.well_formed.places)
 
-  is_made : next ≡ placed (plan_tree h.plan) → next ≡ made (pair_of f.first.is.rule.pair) plan h.node f.found
-  is_made e = e ∙ ap placed f.made
+  pub gone : (before after : Rewritten) (h : Hit) → IsFirstHit S rules (plan_tree before.plan) h → plan_tree after.plan ≡ placed (plan_tree h.plan) →
+      after.trace.items ≡ before.trace.items ++ step_of h.node h.rule ∷ [] → HasGoneOn S rules before after
+  gone before after h f e t = record { step = step_of h.node h.rule; found = f.found; first = f.first; plan = e ∙ ap placed f.made; trace = t }
 
-  pub goes_regular : next ≡ placed (plan_tree h.plan) → Regular S next
-  goes_regular e = subst (Regular S) (sym (is_made e)) (regular_placed S _ f.first.is.matches.regular)
+  module _ (before after : Rewritten) (g : HasGoneOn S rules before after) where
+    pub gone_regular : Regular S (plan_tree after.plan)
+    gone_regular = subst (Regular S) (sym g.plan) (regular_placed S _ g.first.is.matches.regular)
 
-  pub goes_cheaper : next ≡ placed (plan_tree h.plan) → IsSchema S → AreLawful rules → Regular S plan → cost next < cost plan
-  goes_cheaper e schema lawful regular = subst (λ z. cost z < cost plan) (sym (is_made e)) (cheaper S schema rules lawful plan regular (step_of h.node h.rule) f.found f.first.is)
+    pub gone_cheaper : IsSchema S → AreLawful rules → Regular S (plan_tree before.plan) → cost (plan_tree after.plan) < cost (plan_tree before.plan)
+    gone_cheaper schema lawful regular =
+        subst (λ z. cost z < cost (plan_tree before.plan)) (sym g.plan) (cheaper S schema rules lawful (plan_tree before.plan) regular g.step g.found g.first.is)
 
-  pub chain_goes : next ≡ placed (plan_tree h.plan) → (start : PlanTree) (trace after : List Applied) → after ≡ trace ++ step_of h.node h.rule ∷ [] →
-      ((rest : List Applied) (end : PlanTree) → IsChain S rules plan rest end → IsChain S rules start (trace ++ rest) end) →
-      (rest : List Applied) (end : PlanTree) → IsChain S rules next rest end → IsChain S rules start (after ++ rest) end
-  chain_goes e start trace after a so_far rest end c =
-      let moved = subst (λ z. IsChain S rules z rest end) (is_made e) c in
-      let whole = so_far (step_of h.node h.rule ∷ rest) end (goes (step_of h.node h.rule) f.found f.first moved) in
-      subst (λ (l : List Applied). IsChain S rules start l end) (sym (ap (λ (t : List Applied). t ++ rest) a ∙ append_assoc trace (step_of h.node h.rule ∷ []) rest)) whole
+    pub chain_goes : (start : PlanTree) →
+        ((rest : List Applied) (end : PlanTree) → IsChain S rules (plan_tree before.plan) rest end → IsChain S rules start (before.trace.items ++ rest) end) →
+        (rest : List Applied) (end : PlanTree) → IsChain S rules (plan_tree after.plan) rest end → IsChain S rules start (after.trace.items ++ rest) end
+    chain_goes start so_far rest end c =
+        let moved = subst (λ z. IsChain S rules z rest end) g.plan c in
+        let whole = so_far (g.step ∷ rest) end (goes g.step g.found g.first moved) in
+        subst (λ (l : List Applied). IsChain S rules start l end) (sym (ap (λ (t : List Applied). t ++ rest) g.trace ∙ append_assoc before.trace.items (g.step ∷ []) rest)) whole

@@ -3,3 +3,4 @@ pub mod NodeLaws
 pub mod Searching
 pub mod Choosing
 pub mod Going
+pub mod Running

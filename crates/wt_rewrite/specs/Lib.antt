@@ -1,3 +1,5 @@
+pub mod Runs
 pub mod Books
 pub mod Operands
 pub mod Search
+pub mod Going

@@ -1,10 +1,12 @@
 -- The search for the first match: at one node, and at the nodes of a subplan, which are numbered one after the other.
-use Rattle.std.specs.Prelude.{◌≡◌, ℕ, ◌+◌, ◌<◌, ◌≤◌, List}
+use Rattle.std.specs.Prelude.{◌≡◌, ℕ, ◌+◌, ◌<◌, ◌≤◌, List, slice_get, Some}
 use Rattle.wt_schema.specs.declared.schema.Table.{Table}
-use Rattle.wt_symbol.specs.Sides.{pair_of}
+use Rattle.wt_symbol.specs.Sides.{tree_of, pair_of}
 use Rattle.wt_rule.specs.declared.Rule.{Rule}
 use Rattle.wt_plan.specs.Tree.{PlanTree, plan_tree}
 use Rattle.wt_matching.specs.Filling.{Assigned}
+use Rattle.wt_matching.specs.Nodes.{at}
+use Rattle.wt_matching.specs.Finding.{Maybe, Found, found}
 use Rattle.wt_match.specs.Matched.{made_by}
 use Rattle.wt_chains.specs.declared.applied.Applied.{Applied}
 use Rattle.wt_chains.specs.Chains.{IsStep, ComesBefore, IsFirst}
@@ -38,3 +40,17 @@ pub record IsFirstHit (S : List Table) (rules : List Rule) (plan : PlanTree) (h 
   pub found : Assigned
   pub first : IsFirst S rules plan (step_of h.node h.rule) found
   pub made : plan_tree h.plan ≡ made_by (pair_of first.is.rule.pair) plan h.node found
+
+-- the walk of the source of the rule of this number and of the subplan at the node
+abbrev pub HasWalked : List Rule → PlanTree → ℕ → ℕ → Maybe Found → Type 0
+HasWalked rules plan node start x = (r : Rule) → slice_get rules start ≡ Some r → found (tree_of r.pair.source) r.pair.anchors (at plan node) ≡ x
+
+-- no rule from this number on and before that one matches at the node
+pub record HasNoneFrom (S : List Table) (rules : List Rule) (plan : PlanTree) (node start end : ℕ) : Type 0 where
+  pub none : (k : ℕ) (m : Assigned) → start ≤ k → k < end → IsStep S rules plan (step_of node k) m → ⊥
+
+-- the match at the node of the first rule from this number on that has one
+pub record IsFirstOf (S : List Table) (rules : List Rule) (plan : PlanTree) (node start : ℕ) (h : Hit) : Type 0 where
+  pub hit : IsHit S rules plan h
+  pub here : h.node ≡ node
+  pub earlier : (k : ℕ) (m : Assigned) → start ≤ k → k < h.rule → IsStep S rules plan (step_of node k) m → ⊥

@@ -6,6 +6,7 @@ ghost use Rattle.wt_match.specs.Asking.{asked};
 ghost use Rattle.wt_chains.specs.Chains.{AreLawful};
 ghost use Rattle.wt_rewrite.specs.Books.{IsReady};
 
+use crate::runs::{Run, runs_of};
 use std::alloc::Global;
 use wt_constraint::Atoms;
 use wt_match::asked_atoms;
@@ -17,6 +18,7 @@ use wt_value::{Seq, WantOfMemory};
 pub struct Book {
     pub rules: Rules,
     pub atoms: Seq<Atoms>,
+    pub runs: Vec<Run>,
 }
 
 /// For each rule the atoms that it asks for.
@@ -40,6 +42,7 @@ impl Book {
         ensures rules { IfOk result (λ book. book.rules ≡ rules) }
     {
         let atoms = atoms_of_all(alloc, &rules)?;
-        Ok(Book { rules, atoms })
+        let runs = runs_of(alloc, rules.as_slice())?;
+        Ok(Book { rules, atoms, runs })
     }
 }

@@ -7,11 +7,16 @@ ghost use Rattle.wt_matching.specs.Nodes.{at};
 ghost use Rattle.wt_rewrite.specs.Books.{IsReady};
 ghost use Rattle.wt_chains.specs.Chains.{HasNoMatch};
 ghost use Rattle.wt_rewrite.specs.Operands.{AreOperands};
-ghost use Rattle.wt_rewrite.specs.Search.{HasNoneAt, HasNoneIn, IsFirstIn, IsFirstHit};
+ghost use Rattle.wt_matching.specs.Finding as finding;
+ghost use Rattle.wt_found.specs.Seen.{seen};
+ghost use Rattle.wt_rewrite.specs.Runs.{IsRun};
+ghost use Rattle.wt_rewrite.specs.Search.{HasWalked, HasNoneFrom, IsFirstOf, HasNoneAt, HasNoneIn, IsFirstIn, IsFirstHit};
 
 use crate::book::Book;
+use crate::runs::Run;
 use std::alloc::Global;
-use wt_match::made_at;
+use wt_found::{Found, find};
+use wt_match::applied;
 use wt_plan::Plan;
 use wt_plan_facts::Facts;
 use wt_value::WantOfMemory;
@@ -22,6 +27,67 @@ pub struct Hit {
     pub node: u32,
     pub rule: u32,
     pub plan: Plan,
+}
+
+/// The match of the first rule of a run that has one where the walk of their source found this.
+fn in_run<F: Facts>(
+    alloc: Global,
+    facts: &F,
+    book: &Book,
+    run: Run,
+    found: &Found,
+    plan: &Plan,
+    node: u32,
+) -> Result<Option<Hit>, WantOfMemory>
+    requires ready { IsReady book.now }
+    requires run { IsRun book.now.rules run.start run.end }
+    requires narrow { Narrow (plan_tree plan.now) }
+    requires within { node < node_count (plan_tree plan.now) }
+    requires walked { HasWalked book.now.rules (plan_tree plan.now) node run.start (finding.just (seen found.now)) }
+    ensures some { IfOk result (λ hit. IfSome hit (λ h. IsFirstOf (F.tables facts.now) book.now.rules (plan_tree plan.now) node run.start h)) }
+    ensures none { IfOk result (λ hit. IfNone hit (HasNoneFrom (F.tables facts.now) book.now.rules (plan_tree plan.now) node run.start run.end)) }
+{
+    let rules = book.rules.as_slice();
+    let atoms = book.atoms.as_slice();
+    for number in run.start..run.end {
+        let asked = atoms[number].as_slice();
+        match applied(alloc, facts, &rules[number], asked, found, plan, node)? {
+            Some(plan) => {
+                return Ok(Some(Hit {
+                    node,
+                    rule: number as u32,
+                    plan,
+                }));
+            }
+            None => {}
+        }
+    }
+    Ok(None)
+}
+
+/// The match at a node of the first rule of a run that has one there.
+fn at_run<F: Facts>(
+    alloc: Global,
+    facts: &F,
+    book: &Book,
+    run: Run,
+    plan: &Plan,
+    subplan: &Plan,
+    node: u32,
+) -> Result<Option<Hit>, WantOfMemory>
+    requires ready { IsReady book.now }
+    requires run { IsRun book.now.rules run.start run.end }
+    requires narrow { Narrow (plan_tree plan.now) }
+    requires within { node < node_count (plan_tree plan.now) }
+    requires there { plan_tree subplan.now ≡ at (plan_tree plan.now) node }
+    ensures some { IfOk result (λ hit. IfSome hit (λ h. IsFirstOf (F.tables facts.now) book.now.rules (plan_tree plan.now) node run.start h)) }
+    ensures none { IfOk result (λ hit. IfNone hit (HasNoneFrom (F.tables facts.now) book.now.rules (plan_tree plan.now) node run.start run.end)) }
+{
+    let first = &book.rules.as_slice()[run.start];
+    match find(alloc, &first.pair.source, &first.pair.anchors, subplan)? {
+        Some(found) => in_run(alloc, facts, book, run, &found, plan, node),
+        None => Ok(None),
+    }
 }
 
 /// The match at a node of the first rule that has one there.
@@ -40,18 +106,9 @@ fn at_node<F: Facts>(
     ensures some { IfOk result (λ hit. IfSome hit (λ h. IsFirstIn (F.tables facts.now) book.now.rules (plan_tree plan.now) node h)) }
     ensures none { IfOk result (λ hit. IfNone hit (HasNoneAt (F.tables facts.now) book.now.rules (plan_tree plan.now) node)) }
 {
-    let rules = book.rules.as_slice();
-    let atoms = book.atoms.as_slice();
-    for number in 0..rules.len() {
-        let asked = atoms[number].as_slice();
-        match made_at(alloc, facts, &rules[number], asked, plan, subplan, node)? {
-            Some(plan) => {
-                return Ok(Some(Hit {
-                    node,
-                    rule: number as u32,
-                    plan,
-                }));
-            }
+    for run in &book.runs {
+        match at_run(alloc, facts, book, *run, plan, subplan, node)? {
+            Some(hit) => return Ok(Some(hit)),
             None => {}
         }
     }
@@ -105,11 +162,11 @@ fn first_in<F: Facts>(
         Operands::Leaf => Ok(None),
         Operands::One(p) => first_in(alloc, facts, book, plan, p, node + 1),
         Operands::Two(p, q) => {
+            let behind = node + 1 + p.node_count();
             match first_in(alloc, facts, book, plan, p, node + 1)? {
                 Some(hit) => return Ok(Some(hit)),
                 None => {}
             }
-            let behind = node + 1 + p.node_count();
             first_in(alloc, facts, book, plan, q, behind)
         }
     }

@@ -4,6 +4,8 @@
 mod book;
 mod first;
 mod rewriting;
+mod runs;
 
 pub use book::Book;
 pub use rewriting::{Rewritten, rewrite};
+pub use runs::Run;

@@ -14,7 +14,8 @@ use Rattle.wt_outcome.specs.Outcomes.{AppendsPrefix, Ends, Outcome, Writes}
 use Rattle.wt_outcome.specs.Inputs.{IsInput}
 use Rattle.wt_rewriting.specs.Checking.{IsCheckOutcome, IsChecking, IsReadOutcome}
 use Rattle.wt_rewriting.specs.Files.{Names, WithInputs}
-use Rattle.wt_rewriting.specs.Rewriting.{IsBookOutcome, IsFileOutcome, IsQueriesOutcome, IsRewriting, IsRulesOutcome, IsSchemaOutcome, IsTablesOutcome, nothing, status_of}
+use Rattle.wt_rewriting.specs.Rewriting.{IsBookOutcome, IsFileOutcome, IsQueriesOutcome, IsRewriting, IsRulesOutcome, IsSchemaOutcome, IsTablesOutcome, IsWhole, nothing, status_of}
+use Rattle.wt_rewriting.proofs.Beginning.{prefix_of_checked, prefix_of_whole}
 use Rattle.wt_rule.specs.declared.Rule.{Rule}
 use Rattle.wt_rule.specs.declared.RuleBook.{RuleBook}
 use Rattle.wt_rule_line.specs.declared.fault.RuleFault.{RuleFault}
@@ -115,6 +116,9 @@ module _ (told : List ℕ → Option (List ℕ)) (name : List ℕ) {read write :
   pub checked_prefix : (s ≡ 5) ⊎ (s ≡ 6) → (rules : Input) × IsInput (told name) rules × (o : Outcome) × IsChecking name rules o × AppendsPrefix old new o.text
   checked_prefix e = (h.0, h.1, h.2, h.3, h.4.prefix e)
 
+  pub checked_begins : (s ≡ 5) ⊎ (s ≡ 6) → (rules : Input) × IsInput (told name) rules × ((whole : Outcome) → IsCheckOutcome name rules whole → AppendsPrefix old new whole.text)
+  checked_begins e = (h.0, h.1, λ whole is. prefix_of_checked name h.2 whole h.0 h.3 is old new (h.4.prefix e))
+
   pub checked_known : (s ≤ 6) × (s ≢ 1)
   checked_known = status_fine h.2 (checking_fine name h.0 h.2 h.3) h.4
 
@@ -133,6 +137,9 @@ module _ {told : List ℕ → Option (List ℕ)} {names : Names} {read write : T
 
   pub rewritten_prefix : (s ≡ 5) ⊎ (s ≡ 6) → WithInputs told names (λ rules schema queries. (o : Outcome) × IsRewriting names rules schema queries o × AppendsPrefix old new o.text)
   rewritten_prefix e = let (o, is, ends) = h.4 in (h.0, h.1, h.2, h.3, (o, is, ends.prefix e))
+
+  pub rewritten_begins : (s ≡ 5) ⊎ (s ≡ 6) → WithInputs told names (λ rules schema queries. (whole : Outcome) → IsWhole names rules schema queries whole → AppendsPrefix old new whole.text)
+  rewritten_begins e = let (o, is, ends) = h.4 in (h.0, h.1, h.2, h.3, λ whole is_whole. prefix_of_whole names h.0 h.1 h.2 o whole is is_whole old new (ends.prefix e))
 
   pub rewritten_known : (s ≤ 6) × (s ≢ 1)
   rewritten_known = let (o, is, ends) = h.4 in status_fine o (rewriting_fine names h.0 h.1 h.2 o is) ends

@@ -1,5 +1,5 @@
 -- What `rewrite` answers.
-use Rattle.std.specs.Prelude.{◌≡◌, ◌⊎◌, ℕ, List, [], ◌∷◌, ◌++◌, Bool, true, false, codes, take, Ok, Err, Some, None, Result}
+use Rattle.std.specs.Prelude.{◌≡◌, ◌≢◌, ◌⊎◌, ℕ, List, [], ◌∷◌, ◌++◌, Bool, true, false, codes, take, Ok, Err, Some, None, Result}
 use Rattle.std.specs.Fmt.{decimal}
 use Rattle.std.specs.Io.KnownBytes.{append_known}
 use Rattle.std.specs.declared.option.Option.{Option}
@@ -95,6 +95,10 @@ nothing = record { status = None; text = [] }
 -- what the three files give; or what a run may have come to that ends early
 abbrev pub IsRewriting : Names → Input → Input → Input → Outcome → Type 0
 IsRewriting names rules schema queries o = IsRulesOutcome names rules schema queries o ⊎ (o ≡ nothing)
+
+-- a whole answer of the three files: one with a status. What a run has come to that ends early begins it.
+abbrev pub IsWhole : Names → Input → Input → Input → Outcome → Type 0
+IsWhole names rules schema queries o = IsRulesOutcome names rules schema queries o × (o.status ≢ None)
 
 -- The same while the command runs.
 

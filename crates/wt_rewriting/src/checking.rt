@@ -78,9 +78,13 @@ pub fn check<S: Store, K: Sink>(alloc: Global, rules: &str, store: &mut S, sink:
     ensures read { result ≡ 3 → Rose (S.faults store.old) (S.faults store.new) × (K.written sink.new ≡ K.written sink.old) }
     ensures write { result ≡ 5 → Rose (K.faults sink.old) (K.faults sink.new) }
 
-    // After 5 and 6, which is want of memory, a prefix of the text was written. There is no other status, and 1 is none.
+    // After 5 and 6, which is want of memory, a prefix of the text of such a run was written. There is no other status, and 1 is none.
     ensures prefix { (result ≡ 5) ⊎ (result ≡ 6) → (input : Input) × IsInput (S.told store.old rules.now) input × (o : Outcome) × spec.IsChecking rules.now input o
         × AppendsPrefix (K.written sink.old) (K.written sink.new) o.text }
+
+    // So a prefix of the whole answer was written.
+    ensures begins { (result ≡ 5) ⊎ (result ≡ 6) → (input : Input) × IsInput (S.told store.old rules.now) input
+        × ((whole : Outcome) → spec.IsCheckOutcome rules.now input whole → AppendsPrefix (K.written sink.old) (K.written sink.new) whole.text) }
     ensures known { (result ≤ 6) × (result ≢ 1) }
 {
     match try_check(alloc, rules, store, sink) {

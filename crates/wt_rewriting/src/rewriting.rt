@@ -233,9 +233,13 @@ pub fn rewrite<S: Store, K: Sink>(
     ensures read { result ≡ 3 → Rose (S.faults store.old) (S.faults store.new) × (K.written sink.new ≡ K.written sink.old) }
     ensures write { result ≡ 5 → Rose (K.faults sink.old) (K.faults sink.new) }
 
-    // After 5 and 6, which is want of memory, a prefix of the text was written. There is no other status, and 1 is none.
+    // After 5 and 6, which is want of memory, a prefix of the text of such a run was written. There is no other status, and 1 is none.
     ensures prefix { (result ≡ 5) ⊎ (result ≡ 6) → WithInputs (S.told store.old) (named rules.now schema.now queries.now) (λ r s q. (o : Outcome)
         × spec.IsRewriting (named rules.now schema.now queries.now) r s q o × AppendsPrefix (K.written sink.old) (K.written sink.new) o.text) }
+
+    // So a prefix of the whole answer was written.
+    ensures begins { (result ≡ 5) ⊎ (result ≡ 6) → WithInputs (S.told store.old) (named rules.now schema.now queries.now) (λ r s q. (whole : Outcome)
+        → spec.IsWhole (named rules.now schema.now queries.now) r s q whole → AppendsPrefix (K.written sink.old) (K.written sink.new) whole.text) }
     ensures known { (result ≤ 6) × (result ≢ 1) }
 {
     let names = Names {

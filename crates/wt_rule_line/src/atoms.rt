@@ -43,6 +43,17 @@ fn written(anchors: &[u8], atom: Atom) -> ParsedAtom
     }
 }
 
+/// Atoms as lines have them.
+fn written_all(alloc: Global, anchors: &[u8], atoms: &[Atom]) -> Result<Vec<ParsedAtom>, AllocError>
+    ensures { IfOk result (λ all. all.items ≡ map (as_written anchors.now) atoms.now) }
+{
+    let mut all = Vec::new(alloc);
+    for atom in atoms {
+        all.push(written(anchors, *atom))?;
+    }
+    Ok(all)
+}
+
 /// The atoms of a pair as lines have them.
 fn written_atoms(alloc: Global, pair: &Pair) -> Result<Vec<ParsedAtom>, AllocError>
     requires lawful { IsLawful (pair_of pair.now) }
@@ -50,11 +61,7 @@ fn written_atoms(alloc: Global, pair: &Pair) -> Result<Vec<ParsedAtom>, AllocErr
     ensures few { IfOk result (λ all. length all.items ≤ 64) }
 {
     let atoms = atoms_of(alloc, pair)?;
-    let mut all = Vec::new(alloc);
-    for atom in atoms.as_slice() {
-        all.push(written(pair.anchors.as_slice(), *atom))?;
-    }
-    Ok(all)
+    written_all(alloc, pair.anchors.as_slice(), atoms.as_slice())
 }
 
 fn is_among(atom: ParsedAtom, all: &[ParsedAtom]) -> bool

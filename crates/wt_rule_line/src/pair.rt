@@ -2,13 +2,13 @@
 ghost use Rattle.std.specs.Prelude.{◌≡◌, ◌≤◌, ◌++◌, map, min, IfOk, true};
 ghost use Rattle.wt_symbol.specs.Sides.{tree_of, pair_of, size_of};
 ghost use Rattle.wt_symbol.specs.Lawful.{IsLawful, has_lawful_symbols};
-ghost use Rattle.wt_rule_text.specs.Trees.{side_of, rule_of};
+ghost use Rattle.wt_rule_text.specs.Trees.{side_of, rule_of, SideText, one, two};
 ghost use Rattle.wt_rule_line.specs.Pairs.{tree_of_text, anchors_of, pair_of_text, in_byte, in_bytes, MakesPair};
 ghost use Rattle.wt_rule_line.specs.Pairs as spec;
 ghost use Rattle.wt_symbol.specs.Lawful.{fault_of};
 
 use crate::fault::{RuleFault, RuleLineError};
-use crate::symbols::{passes_symbols, push_anchors, size};
+use crate::symbols::{passes_symbols, size, symbols_of};
 use std::alloc::{AllocError, Global};
 use wt_rule_text::{Binary, ParsedRule, ParsedSide, Unary};
 use wt_symbol::{Anchors, MOST_OPERATORS, Pair, PairFault, Side, first_fault};
@@ -20,10 +20,29 @@ fn byte(n: u64) -> u8
     n.min(255) as u8
 }
 
-fn boxed(alloc: Global, side: Side) -> Result<Box<Side>, AllocError>
-    ensures { IfOk result (λ b. b.value ≡ side) }
+/// An operator of one operand over this one, its numbers as bytes.
+fn over_one(alloc: Global, operator: Unary, operand: Side) -> Result<Side, AllocError>
+    ensures { IfOk result (λ side. (s : SideText) → tree_of operand ≡ in_bytes (tree_of_text s) → tree_of side ≡ in_bytes (tree_of_text (one operator s))) }
 {
-    Ok(Box::new(alloc, side)?)
+    let operand = Box::new(alloc, operand)?;
+    Ok(match operator {
+        Unary::Proj(a) => Side::Proj(byte(a.list), operand),
+        Unary::Filter(p, a) => Side::Filter(byte(p), byte(a.list), operand),
+        Unary::Dedup => Side::Dedup(operand),
+    })
+}
+
+/// An operator of two operands over these, its numbers as bytes.
+fn over_two(alloc: Global, operator: Binary, left: Side, right: Side) -> Result<Side, AllocError>
+    ensures { IfOk result (λ side. (s t : SideText) → tree_of left ≡ in_bytes (tree_of_text s) → tree_of right ≡ in_bytes (tree_of_text t) → tree_of side ≡ in_bytes (tree_of_text (two operator s t))) }
+{
+    let left = Box::new(alloc, left)?;
+    let right = Box::new(alloc, right)?;
+    Ok(match operator {
+        Binary::InnerJoin(a, b) => Side::InnerJoin(byte(a.list), byte(b.list), left, right),
+        Binary::LeftJoin(a, b) => Side::LeftJoin(byte(a.list), byte(b.list), left, right),
+        Binary::InSub(a) => Side::InSub(byte(a.list), left, right),
+    })
 }
 
 /// The side with its numbers as bytes.
@@ -32,27 +51,14 @@ fn bytes_of(alloc: Global, side: &ParsedSide) -> Result<Side, AllocError>
 {
     match side {
         ParsedSide::Input(r) => Ok(Side::Input(byte(*r))),
-        ParsedSide::One(Unary::Proj(a), s) => {
-            Ok(Side::Proj(byte(a.list), boxed(alloc, bytes_of(alloc, s)?)?))
+        ParsedSide::One(operator, s) => {
+            let operand = bytes_of(alloc, s)?;
+            over_one(alloc, *operator, operand)
         }
-        ParsedSide::One(Unary::Filter(p, a), s) => {
-            Ok(Side::Filter(byte(*p), byte(a.list), boxed(alloc, bytes_of(alloc, s)?)?))
-        }
-        ParsedSide::One(Unary::Dedup, s) => Ok(Side::Dedup(boxed(alloc, bytes_of(alloc, s)?)?)),
-        ParsedSide::Two(Binary::InnerJoin(a, b), s, t) => {
-            let left = boxed(alloc, bytes_of(alloc, s)?)?;
-            let right = boxed(alloc, bytes_of(alloc, t)?)?;
-            Ok(Side::InnerJoin(byte(a.list), byte(b.list), left, right))
-        }
-        ParsedSide::Two(Binary::LeftJoin(a, b), s, t) => {
-            let left = boxed(alloc, bytes_of(alloc, s)?)?;
-            let right = boxed(alloc, bytes_of(alloc, t)?)?;
-            Ok(Side::LeftJoin(byte(a.list), byte(b.list), left, right))
-        }
-        ParsedSide::Two(Binary::InSub(a), s, t) => {
-            let left = boxed(alloc, bytes_of(alloc, s)?)?;
-            let right = boxed(alloc, bytes_of(alloc, t)?)?;
-            Ok(Side::InSub(byte(a.list), left, right))
+        ParsedSide::Two(operator, s, t) => {
+            let left = bytes_of(alloc, s)?;
+            let right = bytes_of(alloc, t)?;
+            over_two(alloc, *operator, left, right)
         }
     }
 }
@@ -72,9 +78,8 @@ fn bytes(alloc: Global, numbers: &[u64]) -> Result<Anchors, AllocError>
 fn anchor_bytes(alloc: Global, side: &ParsedSide) -> Result<Anchors, AllocError>
     ensures { IfOk result (λ bytes. bytes ≡ map in_byte (anchors_of (side_of side.now))) }
 {
-    let mut anchors = Vec::new(alloc);
-    push_anchors(side, &mut anchors)?;
-    bytes(alloc, &anchors)
+    let symbols = symbols_of(alloc, side)?;
+    bytes(alloc, &symbols.anchors)
 }
 
 /// The sides with their anchors, their numbers as bytes.

@@ -1,114 +1,106 @@
 //! The symbols of a rule as its line has them.
-ghost use Rattle.std.specs.Prelude.{◌≡◌, ◌++◌, ◌-◌, ◌^◌, min, IfOk, OnOk, nat_le};
+ghost use Rattle.std.specs.Prelude.{◌≡◌, ◌++◌, ◌-◌, ◌∷◌, ◌^◌, [], min, IfOk, OnOk};
 ghost use Rattle.std.specs.Option.{option_to_list};
-ghost use Rattle.wt_symbol.specs.Sides.{leaves_of, lists_of, preds_of, size_of};
+ghost use Rattle.wt_symbol.specs.Sides.{PairTree, leaves_of, lists_of, preds_of, size_of};
 ghost use Rattle.wt_symbol.specs.Lawful.{counts_up, all_in, all_different, has_lawful_symbols};
-ghost use Rattle.wt_rule_text.specs.Trees.{side_of, rule_of};
+ghost use Rattle.wt_rule_text.specs.Trees.{side_of, rule_of, SideText, one, two};
 ghost use Rattle.wt_rule_line.specs.Pairs.{tree_of_text, anchors_of, pair_of_text};
 
 use std::alloc::{AllocError, Global};
 use wt_rule_text::{Binary, Listed, ParsedRule, ParsedSide, Unary};
 
-/// Adds the leaves of a side in preorder to the end of a list.
-fn push_leaves(side: &ParsedSide, leaves: &mut Vec<u64>) -> Result<(), AllocError>
-    ensures { OnOk result (leaves.new.items ≡ leaves.old.items ++ leaves_of (tree_of_text (side_of side.now))) }
-{
-    match side {
-        ParsedSide::Input(r) => Ok(leaves.push(*r)?),
-        ParsedSide::One(Unary::Proj(_), s)
-        | ParsedSide::One(Unary::Filter(_, _), s)
-        | ParsedSide::One(Unary::Dedup, s) => push_leaves(s, leaves),
-        ParsedSide::Two(Binary::InnerJoin(_, _), s, t)
-        | ParsedSide::Two(Binary::LeftJoin(_, _), s, t)
-        | ParsedSide::Two(Binary::InSub(_), s, t) => {
-            push_leaves(s, leaves)?;
-            push_leaves(t, leaves)
-        }
-    }
+/// The symbols of a side, each kind in preorder, and the anchors of its lists.
+#[derive(Drop)]
+pub(crate) struct Symbols {
+    leaves: Vec<u64>,
+    lists: Vec<u64>,
+    preds: Vec<u64>,
+    pub(crate) anchors: Vec<u64>,
 }
 
-/// Adds the lists of a side in preorder to the end of a list.
-fn push_lists(side: &ParsedSide, lists: &mut Vec<u64>) -> Result<(), AllocError>
-    ensures { OnOk result (lists.new.items ≡ lists.old.items ++ lists_of (tree_of_text (side_of side.now))) }
+/// Adds a list with its anchor, if it has one.
+fn push_listed(list: Listed, symbols: &mut Symbols) -> Result<(), AllocError>
+    ensures leaves { OnOk result (symbols.new.leaves.items ≡ symbols.old.leaves.items) }
+    ensures lists { OnOk result (symbols.new.lists.items ≡ symbols.old.lists.items ++ list.list ∷ []) }
+    ensures preds { OnOk result (symbols.new.preds.items ≡ symbols.old.preds.items) }
+    ensures anchors { OnOk result (symbols.new.anchors.items ≡ symbols.old.anchors.items ++ option_to_list list.anchor) }
 {
-    match side {
-        ParsedSide::Input(_) => Ok(()),
-        ParsedSide::One(Unary::Proj(a), s) | ParsedSide::One(Unary::Filter(_, a), s) => {
-            lists.push(a.list)?;
-            push_lists(s, lists)
-        }
-        ParsedSide::One(Unary::Dedup, s) => push_lists(s, lists),
-        ParsedSide::Two(Binary::InnerJoin(a, b), s, t)
-        | ParsedSide::Two(Binary::LeftJoin(a, b), s, t) => {
-            lists.push(a.list)?;
-            lists.push(b.list)?;
-            push_lists(s, lists)?;
-            push_lists(t, lists)
-        }
-        ParsedSide::Two(Binary::InSub(a), s, t) => {
-            lists.push(a.list)?;
-            push_lists(s, lists)?;
-            push_lists(t, lists)
-        }
-    }
-}
-
-/// Adds the predicates of a side in preorder to the end of a list.
-fn push_preds(side: &ParsedSide, preds: &mut Vec<u64>) -> Result<(), AllocError>
-    ensures { OnOk result (preds.new.items ≡ preds.old.items ++ preds_of (tree_of_text (side_of side.now))) }
-{
-    match side {
-        ParsedSide::Input(_) => Ok(()),
-        ParsedSide::One(Unary::Filter(p, _), s) => {
-            preds.push(*p)?;
-            push_preds(s, preds)
-        }
-        ParsedSide::One(Unary::Proj(_), s) | ParsedSide::One(Unary::Dedup, s) => push_preds(
-            s, preds,
-        ),
-        ParsedSide::Two(Binary::InnerJoin(_, _), s, t)
-        | ParsedSide::Two(Binary::LeftJoin(_, _), s, t)
-        | ParsedSide::Two(Binary::InSub(_), s, t) => {
-            push_preds(s, preds)?;
-            push_preds(t, preds)
-        }
-    }
-}
-
-/// Adds the anchor of a list, if it has one.
-fn push_anchor(list: Listed, anchors: &mut Vec<u64>) -> Result<(), AllocError>
-    ensures { OnOk result (anchors.new.items ≡ anchors.old.items ++ option_to_list list.anchor) }
-{
+    symbols.lists.push(list.list)?;
     if let Some(r) = list.anchor {
-        anchors.push(r)?;
+        symbols.anchors.push(r)?;
     }
     Ok(())
 }
 
-/// Adds the anchors of a side's lists in preorder to the end of a list.
-pub(crate) fn push_anchors(side: &ParsedSide, anchors: &mut Vec<u64>) -> Result<(), AllocError>
-    ensures { OnOk result (anchors.new.items ≡ anchors.old.items ++ anchors_of (side_of side.now)) }
+/// Adds the symbols of an operator that come before those of its operand.
+fn push_one(operator: Unary, symbols: &mut Symbols) -> Result<(), AllocError>
+    ensures leaves { OnOk result ((s : SideText) → symbols.old.leaves.items ++ leaves_of (tree_of_text (one operator s)) ≡ symbols.new.leaves.items ++ leaves_of (tree_of_text s)) }
+    ensures lists { OnOk result ((s : SideText) → symbols.old.lists.items ++ lists_of (tree_of_text (one operator s)) ≡ symbols.new.lists.items ++ lists_of (tree_of_text s)) }
+    ensures preds { OnOk result ((s : SideText) → symbols.old.preds.items ++ preds_of (tree_of_text (one operator s)) ≡ symbols.new.preds.items ++ preds_of (tree_of_text s)) }
+    ensures anchors { OnOk result ((s : SideText) → symbols.old.anchors.items ++ anchors_of (one operator s) ≡ symbols.new.anchors.items ++ anchors_of s) }
+{
+    match operator {
+        Unary::Proj(a) => push_listed(a, symbols),
+        Unary::Filter(p, a) => {
+            symbols.preds.push(p)?;
+            push_listed(a, symbols)
+        }
+        Unary::Dedup => Ok(()),
+    }
+}
+
+/// Adds the symbols of an operator that come before those of its operands.
+fn push_two(operator: Binary, symbols: &mut Symbols) -> Result<(), AllocError>
+    ensures leaves { OnOk result ((s t : SideText) → symbols.old.leaves.items ++ leaves_of (tree_of_text (two operator s t)) ≡ symbols.new.leaves.items ++ (leaves_of (tree_of_text s) ++ leaves_of (tree_of_text t))) }
+    ensures lists { OnOk result ((s t : SideText) → symbols.old.lists.items ++ lists_of (tree_of_text (two operator s t)) ≡ symbols.new.lists.items ++ (lists_of (tree_of_text s) ++ lists_of (tree_of_text t))) }
+    ensures preds { OnOk result ((s t : SideText) → symbols.old.preds.items ++ preds_of (tree_of_text (two operator s t)) ≡ symbols.new.preds.items ++ (preds_of (tree_of_text s) ++ preds_of (tree_of_text t))) }
+    ensures anchors { OnOk result ((s t : SideText) → symbols.old.anchors.items ++ anchors_of (two operator s t) ≡ symbols.new.anchors.items ++ (anchors_of s ++ anchors_of t)) }
+{
+    match operator {
+        Binary::InnerJoin(a, b) | Binary::LeftJoin(a, b) => {
+            push_listed(a, symbols)?;
+            push_listed(b, symbols)
+        }
+        Binary::InSub(a) => push_listed(a, symbols),
+    }
+}
+
+/// Adds the symbols of a side.
+fn push_symbols(side: &ParsedSide, symbols: &mut Symbols) -> Result<(), AllocError>
+    ensures leaves { OnOk result (symbols.new.leaves.items ≡ symbols.old.leaves.items ++ leaves_of (tree_of_text (side_of side.now))) }
+    ensures lists { OnOk result (symbols.new.lists.items ≡ symbols.old.lists.items ++ lists_of (tree_of_text (side_of side.now))) }
+    ensures preds { OnOk result (symbols.new.preds.items ≡ symbols.old.preds.items ++ preds_of (tree_of_text (side_of side.now))) }
+    ensures anchors { OnOk result (symbols.new.anchors.items ≡ symbols.old.anchors.items ++ anchors_of (side_of side.now)) }
 {
     match side {
-        ParsedSide::Input(_) => Ok(()),
-        ParsedSide::One(Unary::Proj(a), s) | ParsedSide::One(Unary::Filter(_, a), s) => {
-            push_anchor(*a, anchors)?;
-            push_anchors(s, anchors)
+        ParsedSide::Input(r) => Ok(symbols.leaves.push(*r)?),
+        ParsedSide::One(operator, s) => {
+            push_one(*operator, symbols)?;
+            push_symbols(s, symbols)
         }
-        ParsedSide::One(Unary::Dedup, s) => push_anchors(s, anchors),
-        ParsedSide::Two(Binary::InnerJoin(a, b), s, t)
-        | ParsedSide::Two(Binary::LeftJoin(a, b), s, t) => {
-            push_anchor(*a, anchors)?;
-            push_anchor(*b, anchors)?;
-            push_anchors(s, anchors)?;
-            push_anchors(t, anchors)
-        }
-        ParsedSide::Two(Binary::InSub(a), s, t) => {
-            push_anchor(*a, anchors)?;
-            push_anchors(s, anchors)?;
-            push_anchors(t, anchors)
+        ParsedSide::Two(operator, s, t) => {
+            push_two(*operator, symbols)?;
+            push_symbols(s, symbols)?;
+            push_symbols(t, symbols)
         }
     }
+}
+
+/// The symbols of a side.
+pub(crate) fn symbols_of(alloc: Global, side: &ParsedSide) -> Result<Symbols, AllocError>
+    ensures leaves { IfOk result (λ s. s.leaves.items ≡ leaves_of (tree_of_text (side_of side.now))) }
+    ensures lists { IfOk result (λ s. s.lists.items ≡ lists_of (tree_of_text (side_of side.now))) }
+    ensures preds { IfOk result (λ s. s.preds.items ≡ preds_of (tree_of_text (side_of side.now))) }
+    ensures anchors { IfOk result (λ s. s.anchors.items ≡ anchors_of (side_of side.now)) }
+{
+    let mut symbols = Symbols {
+        leaves: Vec::new(alloc),
+        lists: Vec::new(alloc),
+        preds: Vec::new(alloc),
+        anchors: Vec::new(alloc),
+    };
+    push_symbols(side, &mut symbols)?;
+    Ok(symbols)
 }
 
 /// How many operators a side has, up to the type's greatest number.
@@ -126,41 +118,6 @@ pub(crate) fn size(side: &ParsedSide) -> u32
             size(s).saturating_add(size(t)).saturating_add(1)
         }
     }
-}
-
-/// The symbols of a side, each kind in preorder.
-#[derive(Drop)]
-struct Symbols {
-    leaves: Vec<u64>,
-    lists: Vec<u64>,
-    preds: Vec<u64>,
-}
-
-fn symbols_of(alloc: Global, side: &ParsedSide) -> Result<Symbols, AllocError>
-    ensures leaves { IfOk result (λ s. s.leaves.items ≡ leaves_of (tree_of_text (side_of side.now))) }
-    ensures lists { IfOk result (λ s. s.lists.items ≡ lists_of (tree_of_text (side_of side.now))) }
-    ensures preds { IfOk result (λ s. s.preds.items ≡ preds_of (tree_of_text (side_of side.now))) }
-{
-    let mut leaves = Vec::new(alloc);
-    push_leaves(side, &mut leaves)?;
-    let mut lists = Vec::new(alloc);
-    push_lists(side, &mut lists)?;
-    let mut preds = Vec::new(alloc);
-    push_preds(side, &mut preds)?;
-    Ok(Symbols {
-        leaves,
-        lists,
-        preds,
-    })
-}
-
-/// The anchors of a side's lists.
-fn anchors_in(alloc: Global, side: &ParsedSide) -> Result<Vec<u64>, AllocError>
-    ensures { IfOk result (λ anchors. anchors.items ≡ anchors_of (side_of side.now)) }
-{
-    let mut anchors = Vec::new(alloc);
-    push_anchors(side, &mut anchors)?;
-    Ok(anchors)
 }
 
 /// Whether the numbers are 0, 1, 2 and so on.
@@ -194,21 +151,26 @@ fn are_among(symbols: &[u64], others: &[u64]) -> bool
     symbols.iter().all(|x| others.contains(x))
 }
 
+/// Whether the symbols of a source, and those that its destination uses, are lawful.
+fn are_lawful(of: &Symbols, used: &Symbols) -> bool
+    ensures { (p : PairTree) → of.now.leaves.items ≡ leaves_of p.source → of.now.lists.items ≡ lists_of p.source → of.now.preds.items ≡ preds_of p.source → of.now.anchors.items ≡ p.anchors
+        → used.now.leaves.items ≡ leaves_of p.dest → used.now.lists.items ≡ lists_of p.dest → used.now.preds.items ≡ preds_of p.dest → result ≡ has_lawful_symbols p }
+{
+    counts_from_zero(&of.leaves)
+        && counts_from_zero(&of.lists)
+        && counts_from_zero(&of.preds)
+        && of.anchors.len() == of.lists.len()
+        && are_among(&used.leaves, &of.leaves)
+        && are_among(&used.lists, &of.lists)
+        && are_among(&used.preds, &of.preds)
+        && are_different(&used.leaves)
+}
+
 /// Whether the symbols of both sides are lawful.
 pub(crate) fn passes_symbols(alloc: Global, rule: &ParsedRule) -> Result<bool, AllocError>
     ensures { IfOk result (λ yes. yes ≡ has_lawful_symbols (pair_of_text (rule_of rule.now))) }
 {
     let of = symbols_of(alloc, &rule.source)?;
     let used = symbols_of(alloc, &rule.dest)?;
-    let anchors = anchors_in(alloc, &rule.source)?;
-    Ok(
-        counts_from_zero(&of.leaves)
-            && counts_from_zero(&of.lists)
-            && counts_from_zero(&of.preds)
-            && anchors.len() == of.lists.len()
-            && are_among(&used.leaves, &of.leaves)
-            && are_among(&used.lists, &of.lists)
-            && are_among(&used.preds, &of.preds)
-            && are_different(&used.leaves),
-    )
+    Ok(are_lawful(&of, &used))
 }

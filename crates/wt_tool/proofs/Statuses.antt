@@ -5,12 +5,15 @@ use Rattle.std.proofs.lemmas.Result.{IfOk-from_err}
 use Rattle.std.specs.Prelude.{Ok, Err, Some, None, IsErr, MatchResult, is_some}
 use Rattle.std.specs.declared.option.Option.{Option}
 use Rattle.wt_words.specs.declared.fault.UsageFault.{UsageFault}
-use Rattle.wt_tool.specs.Answers.{Answers, CommandOutcome, IsDiscovery, RunOutcome, usage}
+use Rattle.wt_tool.specs.Answers.{Answers, CommandOutcome, RunTexts, WholeTexts, IsDiscovery, RunOutcome, usage}
 use Rattle.wt_pair.specs.declared.bounds.Bounds.{Bounds}
 use Rattle.wt_discovery.specs.Discovering.{IsDiscovered, WritesFile}
 use Rattle.wt_outcome.specs.Outcomes.{AppendsPrefix, Ends, Outcome, Writes}
 use Rattle.wt_words.specs.Commands.{Command, check, command_of, demo, discover, rewrite}
+use Rattle.wt_demo.proofs.OneDemo.{prefix_of_demo}
 use Rattle.wt_demo.proofs.Statuses.{demo_fine}
+use Rattle.wt_discovery.proofs.Alone.{discovered_prefix}
+use Rattle.wt_rewriting.proofs.Beginning.{prefix_of_checked, prefix_of_whole}
 use Rattle.wt_rewriting.proofs.Statuses.{Fine, checking_fine, rewriting_fine}
 use Rattle.wt_rewriting.specs.Files.{named}
 
@@ -74,6 +77,21 @@ module _ {told : List ℕ → Option (List ℕ)} {words : List (List ℕ)} {read
 
   pub prefix_of : (s ≡ 5) ⊎ (s ≡ 6) → RunOutcome told words (λ o. AppendsPrefix old new o.text)
   prefix_of e = of_run told words (λ o. Ends read write old new o s) (λ o. AppendsPrefix old new o.text) (λ o ends. ends.prefix e) h.outcome
+
+  begun : (s ≡ 5) ⊎ (s ≡ 6) → (command : Command) → CommandOutcome told (λ o. Ends read write old new o s) command → WholeTexts told (AppendsPrefix old new) command
+  begun e (rewrite rules schema queries) h =
+      let (o, is, ends) = h.4 in
+      (h.0, h.1, h.2, h.3, λ whole is_whole. prefix_of_whole (named rules schema queries) h.0 h.1 h.2 o whole is is_whole old new (ends.prefix e))
+  begun e (check name) h = (h.0, h.1, λ whole is. prefix_of_checked name h.2 whole h.0 h.3 is old new (h.4.prefix e))
+  begun e (demo first count) h = λ whole is. prefix_of_demo first count h.0 whole h.1 is old new (h.2.prefix e)
+  begun e (discover bounds workers) h = λ file is. discovered_prefix bounds old new file h.0 h.1 is (h.2.prefix e)
+
+  pub begins_of : (s ≡ 5) ⊎ (s ≡ 6) → RunTexts told words (AppendsPrefix old new)
+  begins_of e =
+      elim (command_of words) as (λ v. MatchResult v (CommandOutcome told (λ o. Ends read write old new o s)) (λ fault. Ends read write old new (usage fault) s) → MatchResult v (WholeTexts told (AppendsPrefix old new)) (λ fault. AppendsPrefix old new (usage fault).text)) [
+        | Ok command ↦ λ k. begun e command k
+        | Err fault ↦ λ k. k.prefix e
+      ] h.outcome
 
   known : (o : Outcome) → Few o.status → Ends read write old new o s → s ≤ 6
   known o few ends =

@@ -6,13 +6,13 @@ use Rattle.wt_pair.specs.declared.bounds.Bounds.{Bounds}
 use Rattle.wt_words.specs.declared.fault.UsageFault.{UsageFault}
 use Rattle.wt_words.specs.declared.fault.UsageFault.TheVariants as faults
 use Rattle.wt_words.specs.Commands.{Command, check, command_of, demo, discover, rewrite}
-use Rattle.wt_discovery.specs.Discovering.{IsDiscovered}
+use Rattle.wt_discovery.specs.Discovering.{IsDiscovered, IsFileOf}
 use Rattle.wt_outcome.specs.Inputs.{IsInput}
 use Rattle.wt_outcome.specs.Outcomes.{Outcome, Ends}
-use Rattle.wt_demo.specs.Demo.{IsDemo}
-use Rattle.wt_rewriting.specs.Checking.{IsChecking}
+use Rattle.wt_demo.specs.Demo.{IsDemo, IsWholeDemo}
+use Rattle.wt_rewriting.specs.Checking.{IsCheckOutcome, IsChecking}
 use Rattle.wt_rewriting.specs.Files.{WithInputs, named}
-use Rattle.wt_rewriting.specs.Rewriting.{IsRewriting}
+use Rattle.wt_rewriting.specs.Rewriting.{IsRewriting, IsWhole}
 
 -- the kind of words that are refused
 abbrev pub usage_word : UsageFault → List ℕ
@@ -50,3 +50,15 @@ pub record Answers (told : List ℕ → Option (List ℕ)) (words : List (List �
 -- the words are those of a discovery of these bounds, with some number of workers
 abbrev pub IsDiscovery : List (List ℕ) → Bounds → Type 0
 IsDiscovery words bounds = (workers : ℕ) × (command_of words ≡ Ok (discover bounds workers))
+
+-- what holds of the text of each whole answer of a command, for some inputs that its files may have given
+abbrev pub WholeTexts : (List ℕ → Option (List ℕ)) → (List ℕ → Type 0) → Command → Type 0
+WholeTexts told P (rewrite r s q) =
+    let names = named r s q in WithInputs told names (λ rules schema queries. (whole : Outcome) → IsWhole names rules schema queries whole → P whole.text)
+WholeTexts told P (check name) = (rules : Input) × IsInput (told name) rules × ((whole : Outcome) → IsCheckOutcome name rules whole → P whole.text)
+WholeTexts told P (demo first count) = (whole : Outcome) → IsWholeDemo first count whole → P whole.text
+WholeTexts told P (discover bounds workers) = (file : List ℕ) → IsFileOf bounds file → P file
+
+-- the same of a run
+abbrev pub RunTexts : (List ℕ → Option (List ℕ)) → List (List ℕ) → (List ℕ → Type 0) → Type 0
+RunTexts told words P = MatchResult (command_of words) (WholeTexts told P) (λ fault. P (usage fault).text)

@@ -4,7 +4,7 @@ ghost use Rattle.wt_discovery.specs.Discovering.{IsDiscovered, WritesFile};
 ghost use Rattle.wt_io.specs.Causes.{Rose};
 ghost use Rattle.wt_pair.specs.Candidates.{IsWithinLimits};
 ghost use Rattle.wt_pair.specs.declared.bounds.Bounds.{Bounds};
-ghost use Rattle.wt_tool.specs.Answers.{Answers, IsDiscovery, RunOutcome, usage};
+ghost use Rattle.wt_tool.specs.Answers.{Answers, IsDiscovery, RunOutcome, RunTexts, usage};
 ghost use Rattle.wt_lines.specs.Laws.{HasNoMatchLeft, IsOne, KeepsNames, KeepsRows, Stays};
 ghost use Rattle.wt_outcome.specs.Outcomes.{AppendsPrefix, Ends, Outcome, Writes};
 ghost use Rattle.wt_tool.specs.Laws.{ForRulesRead, LowersTheCost, RulesHaveOneBag, RulesReadHold};
@@ -139,6 +139,9 @@ pub fn wetune<R: Threads + Wait + Sync, S: Store, K: Sink, G: Gate + Sync>(
     // After 5 and 6, which is want of memory, a prefix of the text was written. There is no other status.
     ensures prefix { (result ≡ 5) ⊎ (result ≡ 6) → RunOutcome (S.told store.old) (map string_bytes words.now)
         (λ o. AppendsPrefix (K.written sink.old) (K.written sink.new) o.text) }
+
+    // It is one of each whole answer that the words and the inputs have.
+    ensures begins { (result ≡ 5) ⊎ (result ≡ 6) → RunTexts (S.told store.old) (map string_bytes words.now) (AppendsPrefix (K.written sink.old) (K.written sink.new)) }
     ensures known { result ≤ 6 }
 
     // What a rule of a written file means, and one of a file that is read: nothing is assumed of the files.

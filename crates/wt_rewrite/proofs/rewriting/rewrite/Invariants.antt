@@ -8,10 +8,10 @@ use Rattle.wt_rewrite.proofs.rewriting.rewrite.Given as goal
 
 abbrev pub invariant-steps : goal.invariant-steps
 invariant-steps g l = record {
-  regular : Regular (g.F.Facts.tables l.facts) (plan_tree l.last);
-  chain : (rest : List Applied) (end : PlanTree) → IsChain (g.F.Facts.tables l.facts) l.book.rules (plan_tree l.last) rest end
-      → IsChain (g.F.Facts.tables l.facts) l.book.rules (plan_tree l.fn.plan) (l.trace.items ++ rest) end;
+  regular : Regular (g.F.Facts.tables l.facts) (plan_tree l.so_far.plan);
+  chain : (rest : List Applied) (end : PlanTree) → IsChain (g.F.Facts.tables l.facts) l.book.rules (plan_tree l.so_far.plan) rest end
+      → IsChain (g.F.Facts.tables l.facts) l.book.rules (plan_tree l.fn.plan) (l.so_far.trace.items ++ rest) end;
 }
 
 abbrev pub decreases-steps : goal.decreases-steps
-decreases-steps g l = cost (plan_tree l.last)
+decreases-steps g l = cost (plan_tree l.so_far.plan)

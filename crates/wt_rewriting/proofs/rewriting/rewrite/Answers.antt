@@ -1,4 +1,4 @@
-use Rattle.wt_rewriting.proofs.Statuses.{rewritten_bytes, rewritten_known, rewritten_prefix, rewritten_read, rewritten_write}
+use Rattle.wt_rewriting.proofs.Statuses.{rewritten_begins, rewritten_bytes, rewritten_known, rewritten_prefix, rewritten_read, rewritten_write}
 use Rattle.wt_rewriting.proofs.rewriting.rewrite.Goals as goal
 
 pub returns-clause-bytes : goal.returns-clause-bytes
@@ -15,3 +15,6 @@ returns-clause-prefix g c = rewritten_prefix c.rewrite_files.ensures
 
 pub returns-clause-known : goal.returns-clause-known
 returns-clause-known g c = rewritten_known c.rewrite_files.ensures
+
+pub returns-clause-begins : goal.returns-clause-begins
+returns-clause-begins g c = rewritten_begins c.rewrite_files.ensures

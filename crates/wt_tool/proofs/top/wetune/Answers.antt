@@ -1,4 +1,4 @@
-use Rattle.wt_tool.proofs.Statuses.{bytes_of, file_of, usage_only, usage_where, read_of, write_of, prefix_of, status_known}
+use Rattle.wt_tool.proofs.Statuses.{begins_of, bytes_of, file_of, usage_only, usage_where, read_of, write_of, prefix_of, status_known}
 use Rattle.wt_tool.proofs.RuleBags.{rules_have_one_bag}
 use Rattle.wt_tool.proofs.RulesRead.{read_are_one, read_hold, read_keep_names, read_keep_rows, read_leave_no_match, read_lower_the_cost, read_stay}
 use Rattle.wt_tool.proofs.top.wetune.Goals as goal
@@ -23,6 +23,9 @@ returns-clause-write g c = write_of c.run.ensures
 
 pub returns-clause-prefix : goal.returns-clause-prefix
 returns-clause-prefix g c = prefix_of c.run.ensures
+
+pub returns-clause-begins : goal.returns-clause-begins
+returns-clause-begins g c = begins_of c.run.ensures
 
 pub returns-clause-known : goal.returns-clause-known
 returns-clause-known g c = status_known c.run.ensures

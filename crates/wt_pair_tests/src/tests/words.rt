@@ -9,7 +9,7 @@ static WORDS: [(&str, &str); 32] = [
     ("find", "UnknownCommand"),
     (
         "discover src=2 dst=1 ops=D",
-        "Discover { bounds: Bounds { src: 2, dst: 1, ops: Ops(32), depth: 64, steps: 8 }, workers: 1 }",
+        "Discover { bounds: Bounds { src: 2, dst: 1, ops: Ops(32), depth: 64, steps: 8 }, workers: 4 }",
     ),
     (
         "discover workers=64 ops=DSLIFP steps=16 depth=0 dst=0 src=4",

@@ -4,6 +4,7 @@ use std::alloc::{AllocError, Global};
 use std::sync::Wait;
 use std::sync::atomic::{AtomicU64, Ordering};
 use std::test::*;
+use std::thread;
 use std::thread::Threads;
 use wt_io::{Gate, Moment};
 use wt_search::Search;
@@ -17,12 +18,13 @@ struct Turnstile {
 }
 
 impl Turnstile {
-    /// Waits until both have claimed, for at most so many turns.
+    /// Waits until both have claimed, for at most so many turns, and lets other threads go first in each.
     fn hold(&self) {
         for _ in 0..10_000_000u64 {
             if self.claimed.load(Ordering::SeqCst) == 3 {
                 return;
             }
+            thread::yield_now();
         }
         self.ran_out.fetch_add(1, Ordering::SeqCst);
     }

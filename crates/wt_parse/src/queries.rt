@@ -261,7 +261,7 @@ fn subquery(
     let (query, n) = query(alloc, bytes, ts, end, levels)?;
     let kind = CondKind::InQuery(
         ColumnNames::from_vec(columns),
-        Box::new(alloc, query)?,
+        query,
         word,
     );
     Ok((Condition { at, kind }, n))
@@ -348,9 +348,9 @@ fn query(
     ts: &[Lexeme],
     end: u32,
     levels: u32,
-) -> Result<(Query, usize), QueryError>
+) -> Result<(Box<Query>, usize), QueryError>
     requires { 0 < length ts.now }
-    ensures exact { Gives query_tree result ((spec.nest end bytes.now levels).queries ts.now) }
+    ensures exact { Gives (λ q. query_tree q.value) result ((spec.nest end bytes.now levels).queries ts.now) }
     ensures within { IfOk result (λ x. x.1 ≤ length ts.now) }
 {
     if levels == 0 {
@@ -377,8 +377,8 @@ fn body(
     ts: &[Lexeme],
     end: u32,
     levels: u32,
-) -> Result<(Query, usize), QueryError>
-    ensures exact { Gives query_tree result (spec.body end bytes.now (spec.nest end bytes.now levels) ts.now) }
+) -> Result<(Box<Query>, usize), QueryError>
+    ensures exact { Gives (λ q. query_tree q.value) result (spec.body end bytes.now (spec.nest end bytes.now levels) ts.now) }
     ensures within { IfOk result (λ x. x.1 ≤ length ts.now) }
 {
     let (distinct, d) = quantifier(ts);
@@ -389,16 +389,13 @@ fn body(
     let rest = after(rest, f);
     let (from, m) = from_list(alloc, bytes, rest, end, levels)?;
     let (filter, k) = filter(alloc, bytes, after(rest, m), end, levels)?;
-    let items = Items::from_vec(items);
-    Ok((
-        Query {
-            distinct,
-            items,
-            from,
-            filter,
-        },
-        d + n + f + m + k,
-    ))
+    let query = Query {
+        distinct,
+        items: Items::from_vec(items),
+        from: Box::into_inner(from),
+        filter,
+    };
+    Ok((Box::new(alloc, query)?, d + n + f + m + k))
 }
 
 #[cycle(read)]
@@ -428,8 +425,8 @@ fn primary(
     ts: &[Lexeme],
     end: u32,
     levels: u32,
-) -> Result<(FromPart, usize), QueryError>
-    ensures exact { Gives from_tree result (spec.primary end bytes.now (spec.nest end bytes.now levels) ts.now) }
+) -> Result<(Box<FromPart>, usize), QueryError>
+    ensures exact { Gives (λ f. from_tree f.value) result (spec.primary end bytes.now (spec.nest end bytes.now levels) ts.now) }
     ensures within { IfOk result (λ x. x.1 ≤ length ts.now) }
 {
     if at_name(ts) {
@@ -465,9 +462,9 @@ fn derived_part(
     ts: &[Lexeme],
     end: u32,
     levels: u32,
-) -> Result<(FromPart, usize), QueryError>
+) -> Result<(Box<FromPart>, usize), QueryError>
     requires { 0 < length ts.now }
-    ensures exact { Gives from_tree result (spec.derived_part end bytes.now (spec.nest end bytes.now levels) ts.now) }
+    ensures exact { Gives (λ f. from_tree f.value) result (spec.derived_part end bytes.now (spec.nest end bytes.now levels) ts.now) }
     ensures within { IfOk result (λ x. x.1 ≤ length ts.now) }
 {
     let at = place(ts, end);
@@ -491,8 +488,8 @@ fn joined(
     ts: &[Lexeme],
     end: u32,
     levels: u32,
-) -> Result<(FromPart, usize), QueryError>
-    ensures exact { Gives from_tree result (spec.joined end bytes.now (spec.nest end bytes.now levels) inside ts.now) }
+) -> Result<(Box<FromPart>, usize), QueryError>
+    ensures exact { Gives (λ f. from_tree f.value) result (spec.joined end bytes.now (spec.nest end bytes.now levels) inside ts.now) }
     ensures within { IfOk result (λ x. x.1 ≤ length ts.now) }
 {
     let (first, n) = primary(alloc, bytes, ts, end, levels)?;
@@ -505,12 +502,12 @@ fn joins(
     alloc: Global,
     bytes: &[u8],
     inside: bool,
-    first: FromPart,
+    first: Box<FromPart>,
     ts: &[Lexeme],
     end: u32,
     levels: u32,
-) -> Result<(FromPart, usize), QueryError>
-    ensures exact { Gives from_tree result (readings.repeat (lexemes.at begins_join) (spec.join end bytes.now (spec.nest end bytes.now levels) inside) 0 (from_tree first) ts.now) }
+) -> Result<(Box<FromPart>, usize), QueryError>
+    ensures exact { Gives (λ f. from_tree f.value) result (readings.repeat (lexemes.at begins_join) (spec.join end bytes.now (spec.nest end bytes.now levels) inside) 0 (from_tree first.value) ts.now) }
     ensures within { IfOk result (λ x. x.1 ≤ length ts.now) }
 {
     let mut left = first;
@@ -529,13 +526,13 @@ fn join(
     alloc: Global,
     bytes: &[u8],
     inside: bool,
-    left: FromPart,
+    left: Box<FromPart>,
     ts: &[Lexeme],
     end: u32,
     levels: u32,
-) -> Result<(FromPart, usize), QueryError>
+) -> Result<(Box<FromPart>, usize), QueryError>
     requires { 0 < length ts.now }
-    ensures exact { Gives from_tree result (spec.join end bytes.now (spec.nest end bytes.now levels) inside (from_tree left) ts.now) }
+    ensures exact { Gives (λ f. from_tree f.value) result (spec.join end bytes.now (spec.nest end bytes.now levels) inside (from_tree left.value) ts.now) }
     ensures within { IfOk result (λ x. (1 ≤ x.1) × (x.1 ≤ length ts.now)) }
 {
     let (word, n) = join_words(ts, end)?;
@@ -565,8 +562,8 @@ fn from_list(
     ts: &[Lexeme],
     end: u32,
     levels: u32,
-) -> Result<(FromPart, usize), QueryError>
-    ensures exact { Gives from_tree result (spec.from_list end bytes.now (spec.nest end bytes.now levels) ts.now) }
+) -> Result<(Box<FromPart>, usize), QueryError>
+    ensures exact { Gives (λ f. from_tree f.value) result (spec.from_list end bytes.now (spec.nest end bytes.now levels) ts.now) }
     ensures within { IfOk result (λ x. x.1 ≤ length ts.now) }
 {
     let (first, n) = joined(alloc, bytes, false, ts, end, levels)?;
@@ -578,12 +575,12 @@ fn from_list(
 fn more_from(
     alloc: Global,
     bytes: &[u8],
-    first: FromPart,
+    first: Box<FromPart>,
     ts: &[Lexeme],
     end: u32,
     levels: u32,
-) -> Result<(FromPart, usize), QueryError>
-    ensures exact { Gives from_tree result (readings.repeat (lexemes.at is_comma) (spec.listed_part end bytes.now (spec.nest end bytes.now levels)) 0 (from_tree first) ts.now) }
+) -> Result<(Box<FromPart>, usize), QueryError>
+    ensures exact { Gives (λ f. from_tree f.value) result (readings.repeat (lexemes.at is_comma) (spec.listed_part end bytes.now (spec.nest end bytes.now levels)) 0 (from_tree first.value) ts.now) }
     ensures within { IfOk result (λ x. x.1 ≤ length ts.now) }
 {
     let mut left = first;
@@ -602,13 +599,13 @@ fn more_from(
 fn listed_part(
     alloc: Global,
     bytes: &[u8],
-    left: FromPart,
+    left: Box<FromPart>,
     ts: &[Lexeme],
     end: u32,
     levels: u32,
-) -> Result<(FromPart, usize), QueryError>
+) -> Result<(Box<FromPart>, usize), QueryError>
     requires { 0 < length ts.now }
-    ensures exact { Gives from_tree result (spec.listed_part end bytes.now (spec.nest end bytes.now levels) (from_tree left) ts.now) }
+    ensures exact { Gives (λ f. from_tree f.value) result (spec.listed_part end bytes.now (spec.nest end bytes.now levels) (from_tree left.value) ts.now) }
     ensures within { IfOk result (λ x. (1 ≤ x.1) × (x.1 ≤ length ts.now)) }
 {
     let comma_at = place(ts, end);
@@ -623,8 +620,8 @@ pub(crate) fn statement(
     bytes: &[u8],
     ts: &[Lexeme],
     end: u32,
-) -> Result<(Query, usize), QueryError>
-    ensures exact { Gives query_tree result (spec.statement end bytes.now ts.now) }
+) -> Result<(Box<Query>, usize), QueryError>
+    ensures exact { Gives (λ q. query_tree q.value) result (spec.statement end bytes.now ts.now) }
 {
     if !at_key(ts, Word::Select) {
         return Err(no(no_statement(kind(ts)), ts, end));

@@ -223,11 +223,11 @@ fn limits(alloc: Global, query: &Query) -> Option<QueryError>
 }
 
 // A query that was read, unless it is barred.
-fn limited(alloc: Global, query: Query) -> Result<Query, QueryError>
-    ensures { Answers result (spec.unless (spec.barred (marks (query_tree query))) (query_tree query)) }
+fn limited(alloc: Global, query: Box<Query>) -> Result<Query, QueryError>
+    ensures { Answers result (spec.unless (spec.barred (marks (query_tree query.value))) (query_tree query.value)) }
 {
     match limits(alloc, &query) {
-        None => Ok(query),
+        None => Ok(Box::into_inner(query)),
         Some(error) => Err(error),
     }
 }

@@ -138,24 +138,21 @@ pub fn table_part(
     bytes: &[u8],
     ts: &[Lexeme],
     end: u32,
-) -> Result<(FromPart, usize), QueryError>
-    ensures exact { Gives from_tree result (spec.table_part end bytes.now ts.now) }
+) -> Result<(Box<FromPart>, usize), QueryError>
+    ensures exact { Gives (λ f. from_tree f.value) result (spec.table_part end bytes.now ts.now) }
     ensures within { IfOk result (λ x. x.1 ≤ length ts.now) }
 {
     let at = place(ts, end);
     let (name, n) = name(alloc, bytes, ts, end)?;
     let (alias, m) = alias(alloc, bytes, after(ts, n), end)?;
     let alias_at = place_or(&alias, at);
-    let alias = name_only(alias);
-    Ok((
-        FromPart::Table {
-            name,
-            alias,
-            at,
-            alias_at,
-        },
-        n + m,
-    ))
+    let table = FromPart::Table {
+        name,
+        alias: name_only(alias),
+        at,
+        alias_at,
+    };
+    Ok((Box::new(alloc, table)?, n + m))
 }
 
 #[tactic(auto, unfolding(wt_grammar::specs::Reading::outer_join, wt_reading::specs::Readings::expect))]
@@ -211,18 +208,6 @@ pub fn quantifier(ts: &[Lexeme]) -> (bool, usize)
     }
 }
 
-fn boxed(
-    alloc: Global,
-    left: FromPart,
-    right: FromPart,
-) -> Result<(Box<FromPart>, Box<FromPart>), WantOfMemory>
-    ensures left { IfOk result (λ b. b.0.value ≡ left) }
-    ensures right { IfOk result (λ b. b.1.value ≡ right) }
-{
-    let left = Box::new(alloc, left)?;
-    Ok((left, Box::new(alloc, right)?))
-}
-
 fn join_by(
     kind: JoinKind,
     left: Box<FromPart>,
@@ -258,51 +243,50 @@ fn join_by(
 pub fn joined_from(
     alloc: Global,
     kind: JoinKind,
-    left: FromPart,
-    right: FromPart,
+    left: Box<FromPart>,
+    right: Box<FromPart>,
     on: Condition,
     on_at: u32,
-) -> Result<FromPart, WantOfMemory>
-    ensures { IfOk result (λ f. from_tree f ≡ spec.join_of kind (from_tree left) (from_tree right) (condition_tree on) on_at) }
+) -> Result<Box<FromPart>, WantOfMemory>
+    ensures { IfOk result (λ f. from_tree f.value ≡ spec.join_of kind (from_tree left.value) (from_tree right.value) (condition_tree on) on_at) }
 {
-    let (left, right) = boxed(alloc, left, right)?;
-    Ok(join_by(kind, left, right, on, on_at))
+    Ok(Box::new(alloc, join_by(kind, left, right, on, on_at))?)
 }
 
 /// A list with commas and the item behind its next comma.
 pub fn listed_from(
     alloc: Global,
-    left: FromPart,
-    right: FromPart,
+    left: Box<FromPart>,
+    right: Box<FromPart>,
     comma_at: u32,
-) -> Result<FromPart, WantOfMemory>
-    ensures { IfOk result (λ f. from_tree f ≡ comma (from_tree left) (from_tree right) comma_at) }
+) -> Result<Box<FromPart>, WantOfMemory>
+    ensures { IfOk result (λ f. from_tree f.value ≡ comma (from_tree left.value) (from_tree right.value) comma_at) }
 {
-    let (left, right) = boxed(alloc, left, right)?;
-    Ok(FromPart::Comma {
+    let list = FromPart::Comma {
         left,
         right,
         comma_at,
-    })
+    };
+    Ok(Box::new(alloc, list)?)
 }
 
 /// A query in parentheses with its alias, and with names of its columns where they are written.
 pub fn derived_from(
     alloc: Global,
-    query: Query,
+    query: Box<Query>,
     alias: Name,
     columns: Option<Names>,
     at: u32,
     alias_at: u32,
-) -> Result<FromPart, WantOfMemory>
-    ensures { IfOk result (λ f. from_tree f ≡ derived (query_tree query) alias columns at alias_at) }
+) -> Result<Box<FromPart>, WantOfMemory>
+    ensures { IfOk result (λ f. from_tree f.value ≡ derived (query_tree query.value) alias columns at alias_at) }
 {
-    let query = Box::new(alloc, query)?;
-    Ok(FromPart::Derived {
+    let derived = FromPart::Derived {
         query,
         alias,
         columns,
         at,
         alias_at,
-    })
+    };
+    Ok(Box::new(alloc, derived)?)
 }

@@ -66,9 +66,9 @@ more_neg-returns-clause-exact t c =
 pub joins-returns-in_err-wider-clause-exact : goal.joins-returns-in_err-wider-clause-exact
 joins-returns-in_err-wider-clause-exact t c =
     let words = ap (λ l. begins_join (kind l)) (sym c.after.ensures) ∙ sym c.at_join_words.ensures.value ∙ c.parts-test.true in
-    gives_exit from_tree from_tree c.in_err-wider.field-0.0 c.from_residual.result (spec.join c.args.end c.args.bytes.now (spec.nest c.args.end c.args.bytes.now c.args.levels) c.args.inside (from_tree c.parts.left) c.after-in-parts.result.now) _ c.from_residual.ensures.1 c.in_err-wider.ensures.exact
-    (λ f h. turn_fails (at begins_join) (spec.join c.args.end c.args.bytes.now (spec.nest c.args.end c.args.bytes.now c.args.levels) c.args.inside) (there begins_join refl) (from_tree c.parts.left) c.parts.at c.args.ts.now f _ c.parts.invariant.exact words
-    (ap (spec.join c.args.end c.args.bytes.now (spec.nest c.args.end c.args.bytes.now c.args.levels) c.args.inside (from_tree c.parts.left)) (sym c.after-in-parts.ensures) ∙ h))
+    gives_exit (λ f. from_tree f.value) (λ f. from_tree f.value) c.in_err-wider.field-0.0 c.from_residual.result (spec.join c.args.end c.args.bytes.now (spec.nest c.args.end c.args.bytes.now c.args.levels) c.args.inside (from_tree c.parts.left.value) c.after-in-parts.result.now) _ c.from_residual.ensures.1 c.in_err-wider.ensures.exact
+    (λ f h. turn_fails (at begins_join) (spec.join c.args.end c.args.bytes.now (spec.nest c.args.end c.args.bytes.now c.args.levels) c.args.inside) (there begins_join refl) (from_tree c.parts.left.value) c.parts.at c.args.ts.now f _ c.parts.invariant.exact words
+    (ap (spec.join c.args.end c.args.bytes.now (spec.nest c.args.end c.args.bytes.now c.args.levels) c.args.inside (from_tree c.parts.left.value)) (sym c.after-in-parts.ensures) ∙ h))
 
 pub joins-parts-preserved : goal.joins-parts-preserved
 joins-parts-preserved t c =
@@ -77,22 +77,22 @@ joins-parts-preserved t c =
     let here = ap length c.after.ensures ∙ length-drop c.parts.at c.args.ts.now in
     let rest = ap length c.after-in-parts.ensures ∙ length-drop c.parts.at c.args.ts.now in
     record {
-      exact = turn_goes (at begins_join) (spec.join c.args.end c.args.bytes.now (spec.nest c.args.end c.args.bytes.now c.args.levels) c.args.inside) (there begins_join refl) (from_tree c.parts.left) (from_tree c.in_ok-wider.wider) c.parts.at c.in_ok-wider.m c.args.ts.now _ c.parts.invariant.exact words
-          c.in_ok-wider.ensures.within.0 (ap (spec.join c.args.end c.args.bytes.now (spec.nest c.args.end c.args.bytes.now c.args.levels) c.args.inside (from_tree c.parts.left)) (sym c.after-in-parts.ensures) ∙ c.in_ok-wider.ensures.exact);
+      exact = turn_goes (at begins_join) (spec.join c.args.end c.args.bytes.now (spec.nest c.args.end c.args.bytes.now c.args.levels) c.args.inside) (there begins_join refl) (from_tree c.parts.left.value) (from_tree c.in_ok-wider.wider.value) c.parts.at c.in_ok-wider.m c.args.ts.now _ c.parts.invariant.exact words
+          c.in_ok-wider.ensures.within.0 (ap (spec.join c.args.end c.args.bytes.now (spec.nest c.args.end c.args.bytes.now c.args.levels) c.args.inside (from_tree c.parts.left.value)) (sym c.after-in-parts.ensures) ∙ c.in_ok-wider.ensures.exact);
       within = omega (arith, c.in_ok-wider.ensures.within);
     }
 
 pub joins-returns-clause-exact : goal.joins-returns-clause-exact
 joins-returns-clause-exact t c =
     let none = ap (λ l. begins_join (kind l)) (sym c.after.ensures) ∙ sym c.at_join_words.ensures.value ∙ c.parts-test.false in
-    turn_stops (at begins_join) (spec.join c.args.end c.args.bytes.now (spec.nest c.args.end c.args.bytes.now c.args.levels) c.args.inside) (there begins_join refl) (from_tree c.parts.left) c.parts.at c.args.ts.now _ c.parts.invariant.exact none
+    turn_stops (at begins_join) (spec.join c.args.end c.args.bytes.now (spec.nest c.args.end c.args.bytes.now c.args.levels) c.args.inside) (there begins_join refl) (from_tree c.parts.left.value) c.parts.at c.args.ts.now _ c.parts.invariant.exact none
 
 pub more_from-returns-in_err-wider-clause-exact : goal.more_from-returns-in_err-wider-clause-exact
 more_from-returns-in_err-wider-clause-exact t c =
     let words = ap (λ l. is_comma (kind l)) (sym c.after.ensures) ∙ sym c.at_mark.ensures.value ∙ c.parts-test.true in
-    gives_exit from_tree from_tree c.in_err-wider.field-0.0 c.from_residual.result (spec.listed_part c.args.end c.args.bytes.now (spec.nest c.args.end c.args.bytes.now c.args.levels) (from_tree c.parts.left) c.after-in-parts.result.now) _ c.from_residual.ensures.1 c.in_err-wider.ensures.exact
-    (λ f h. turn_fails (at is_comma) (spec.listed_part c.args.end c.args.bytes.now (spec.nest c.args.end c.args.bytes.now c.args.levels)) (there is_comma refl) (from_tree c.parts.left) c.parts.at c.args.ts.now f _ c.parts.invariant.exact words
-    (ap (spec.listed_part c.args.end c.args.bytes.now (spec.nest c.args.end c.args.bytes.now c.args.levels) (from_tree c.parts.left)) (sym c.after-in-parts.ensures) ∙ h))
+    gives_exit (λ f. from_tree f.value) (λ f. from_tree f.value) c.in_err-wider.field-0.0 c.from_residual.result (spec.listed_part c.args.end c.args.bytes.now (spec.nest c.args.end c.args.bytes.now c.args.levels) (from_tree c.parts.left.value) c.after-in-parts.result.now) _ c.from_residual.ensures.1 c.in_err-wider.ensures.exact
+    (λ f h. turn_fails (at is_comma) (spec.listed_part c.args.end c.args.bytes.now (spec.nest c.args.end c.args.bytes.now c.args.levels)) (there is_comma refl) (from_tree c.parts.left.value) c.parts.at c.args.ts.now f _ c.parts.invariant.exact words
+    (ap (spec.listed_part c.args.end c.args.bytes.now (spec.nest c.args.end c.args.bytes.now c.args.levels) (from_tree c.parts.left.value)) (sym c.after-in-parts.ensures) ∙ h))
 
 pub more_from-parts-preserved : goal.more_from-parts-preserved
 more_from-parts-preserved t c =
@@ -101,12 +101,12 @@ more_from-parts-preserved t c =
     let here = ap length c.after.ensures ∙ length-drop c.parts.at c.args.ts.now in
     let rest = ap length c.after-in-parts.ensures ∙ length-drop c.parts.at c.args.ts.now in
     record {
-      exact = turn_goes (at is_comma) (spec.listed_part c.args.end c.args.bytes.now (spec.nest c.args.end c.args.bytes.now c.args.levels)) (there is_comma refl) (from_tree c.parts.left) (from_tree c.in_ok-wider.wider) c.parts.at c.in_ok-wider.m c.args.ts.now _ c.parts.invariant.exact words
-          c.in_ok-wider.ensures.within.0 (ap (spec.listed_part c.args.end c.args.bytes.now (spec.nest c.args.end c.args.bytes.now c.args.levels) (from_tree c.parts.left)) (sym c.after-in-parts.ensures) ∙ c.in_ok-wider.ensures.exact);
+      exact = turn_goes (at is_comma) (spec.listed_part c.args.end c.args.bytes.now (spec.nest c.args.end c.args.bytes.now c.args.levels)) (there is_comma refl) (from_tree c.parts.left.value) (from_tree c.in_ok-wider.wider.value) c.parts.at c.in_ok-wider.m c.args.ts.now _ c.parts.invariant.exact words
+          c.in_ok-wider.ensures.within.0 (ap (spec.listed_part c.args.end c.args.bytes.now (spec.nest c.args.end c.args.bytes.now c.args.levels) (from_tree c.parts.left.value)) (sym c.after-in-parts.ensures) ∙ c.in_ok-wider.ensures.exact);
       within = omega (arith, c.in_ok-wider.ensures.within);
     }
 
 pub more_from-returns-clause-exact : goal.more_from-returns-clause-exact
 more_from-returns-clause-exact t c =
     let none = ap (λ l. is_comma (kind l)) (sym c.after.ensures) ∙ sym c.at_mark.ensures.value ∙ c.parts-test.false in
-    turn_stops (at is_comma) (spec.listed_part c.args.end c.args.bytes.now (spec.nest c.args.end c.args.bytes.now c.args.levels)) (there is_comma refl) (from_tree c.parts.left) c.parts.at c.args.ts.now _ c.parts.invariant.exact none
+    turn_stops (at is_comma) (spec.listed_part c.args.end c.args.bytes.now (spec.nest c.args.end c.args.bytes.now c.args.levels)) (there is_comma refl) (from_tree c.parts.left.value) c.parts.at c.args.ts.now _ c.parts.invariant.exact none

@@ -96,8 +96,8 @@ decreases-more_neg-parts l = length l.ts - l.at
 
 abbrev pub invariant-joins-parts : goal.invariant-joins-parts
 invariant-joins-parts l = record {
-  exact : readings.plus l.at (readings.repeat (at begins_join) (spec.join l.end l.bytes (spec.nest l.end l.bytes l.levels) l.inside) 0 (from_tree l.left) (drop l.at l.ts))
-      ≡ readings.repeat (at begins_join) (spec.join l.end l.bytes (spec.nest l.end l.bytes l.levels) l.inside) 0 (from_tree l.fn.first) l.ts;
+  exact : readings.plus l.at (readings.repeat (at begins_join) (spec.join l.end l.bytes (spec.nest l.end l.bytes l.levels) l.inside) 0 (from_tree l.left.value) (drop l.at l.ts))
+      ≡ readings.repeat (at begins_join) (spec.join l.end l.bytes (spec.nest l.end l.bytes l.levels) l.inside) 0 (from_tree l.fn.first.value) l.ts;
   within : l.at ≤ length l.ts;
 }
 
@@ -106,8 +106,8 @@ decreases-joins-parts l = length l.ts - l.at
 
 abbrev pub invariant-more_from-parts : goal.invariant-more_from-parts
 invariant-more_from-parts l = record {
-  exact : readings.plus l.at (readings.repeat (at is_comma) (spec.listed_part l.end l.bytes (spec.nest l.end l.bytes l.levels)) 0 (from_tree l.left) (drop l.at l.ts))
-      ≡ readings.repeat (at is_comma) (spec.listed_part l.end l.bytes (spec.nest l.end l.bytes l.levels)) 0 (from_tree l.fn.first) l.ts;
+  exact : readings.plus l.at (readings.repeat (at is_comma) (spec.listed_part l.end l.bytes (spec.nest l.end l.bytes l.levels)) 0 (from_tree l.left.value) (drop l.at l.ts))
+      ≡ readings.repeat (at is_comma) (spec.listed_part l.end l.bytes (spec.nest l.end l.bytes l.levels)) 0 (from_tree l.fn.first.value) l.ts;
   within : l.at ≤ length l.ts;
 }
 

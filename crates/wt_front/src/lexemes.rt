@@ -3,9 +3,23 @@ ghost use Rattle.std.specs.Prelude.{◌≡◌, ◌<◌, ◌≤◌, ◌-◌, map,
 ghost use Rattle.wt_reading.specs.Lexemes as spec;
 
 use std::alloc::Global;
-use wt_lex::Tokens;
-use wt_reading::{Lexeme, lexeme_of};
+use wt_lex::{Token, TokenKind, Tokens};
+use wt_reading::{Kind, Lexeme, lexeme_of};
 use wt_value::WantOfMemory;
+
+// A token with its kind. No reserved word has one letter, so such a word is a name.
+#[tactic(auto, using(crate::proofs::Short::short_word))]
+fn shown(bytes: &[u8], token: Token) -> Lexeme
+    ensures { result ≡ spec.lexeme bytes.now token }
+{
+    match token.kind {
+        TokenKind::Word if token.end.saturating_sub(token.start) < 2 => Lexeme {
+            kind: Kind::Name,
+            token,
+        },
+        _ => lexeme_of(bytes, token),
+    }
+}
 
 /// The tokens from a place to before another, with their kinds.
 pub fn lexemes(
@@ -21,7 +35,7 @@ pub fn lexemes(
 {
     let mut all = Vec::with_capacity(alloc, to - from)?;
     for i in from..to {
-        all.push(lexeme_of(bytes, tokens.get(i)))?;
+        all.push(shown(bytes, tokens.get(i)))?;
     }
     Ok(all)
 }

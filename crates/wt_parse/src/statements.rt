@@ -1,5 +1,5 @@
 //! The statements of a file.
-ghost use Rattle.std.specs.Prelude.{◌≡◌, ◌<◌, ◌≤◌, ◌-◌, ◌+◌, ◌++◌, ◌∷◌, [], ◌^◌, min, map, filter, take, drop, length, slice_get, Some, IfOk, true, false};
+ghost use Rattle.std.specs.Prelude.{◌≡◌, ◌<◌, ◌≤◌, ◌-◌, ◌+◌, ◌++◌, ◌∷◌, [], ◌^◌, min, map, filter, take, drop, length, slice_get, Some, None, IfOk, true, false};
 ghost use Rattle.std.specs.List.{All};
 ghost use Rattle.wt_grammar.specs.Statements as spec;
 ghost use Rattle.wt_ast.specs.Tree.{query_tree};
@@ -11,7 +11,7 @@ ghost use Rattle.wt_parse.specs.Outcomes.{Reads, Answers};
 use crate::queries::statement;
 use std::alloc::Global;
 use std::marker::Model;
-use wt_ast::{Mark, Marked, Query};
+use wt_ast::{FromPart, Mark, Marked, Query};
 use wt_front::QueryError;
 use wt_front::lexemes::lexemes;
 use wt_grammar::QueryFault;
@@ -209,10 +209,23 @@ fn barred(marks: &[Mark]) -> Option<(QueryFault, u32)>
     }
 }
 
+// Whether a query has one table behind FROM and no condition.
+fn is_plain(query: &Query) -> bool
+    ensures { result ≡ true → spec.barred (marks (query_tree query.now)) ≡ None }
+{
+    match &query.from {
+        FromPart::Table { .. } => query.filter.is_none(),
+        _ => false,
+    }
+}
+
 // Why a query that was read is not given: it is barred, or memory ran out.
 fn limits(alloc: Global, query: &Query) -> Option<QueryError>
     ensures { Bars result (spec.barred (marks (query_tree query.now))) }
 {
+    if is_plain(query) {
+        return None;
+    }
     match query.marks(alloc) {
         Err(_) => Some(QueryError::Memory),
         Ok(marks) => match barred(marks.as_slice()) {

@@ -8,7 +8,7 @@ use Rattle.wt_front.proofs.lexemes.lexemes.Goals as goal
 pub loop-i-preserved : goal.loop-i-preserved
 loop-i-preserved c =
     c.in_ok-push.ensures.items
-    ∙ (λ j. c.loop-i.invariant j ++ c.lexeme_of.ensures j ∷ [])
+    ∙ (λ j. c.loop-i.invariant j ++ c.shown.ensures j ∷ [])
     ∙ sym (map-append (spec.lexeme c.args.bytes.now) (take (c.loop-i.i - c.args.from) (drop c.args.from c.args.tokens.now)) (c.get.result ∷ []))
     ∙ ap (map (spec.lexeme c.args.bytes.now)) (sym (slice_more c.args.from c.args.tokens.now c.loop-i.i c.get.result c.loop-i.auto.i c.get.ensures))
 

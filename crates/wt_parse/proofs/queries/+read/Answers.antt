@@ -66,7 +66,7 @@ more_neg-returns-clause-exact t c =
 pub joins-returns-in_err-wider-clause-exact : goal.joins-returns-in_err-wider-clause-exact
 joins-returns-in_err-wider-clause-exact t c =
     let words = ap (λ l. begins_join (kind l)) (sym c.after.ensures) ∙ sym c.at_join_words.ensures.value ∙ c.parts-test.true in
-    gives_exit (λ f. from_tree f.value) (λ f. from_tree f.value) c.in_err-wider.field-0.0 c.from_residual.result (spec.join c.args.end c.args.bytes.now (spec.nest c.args.end c.args.bytes.now c.args.levels) c.args.inside (from_tree c.parts.left.value) c.after-in-parts.result.now) _ c.from_residual.ensures.1 c.in_err-wider.ensures.exact
+    gives_exit (λ f. from_tree f.value) from_tree c.in_err-wider.field-0.0 c.from_residual.result (spec.join c.args.end c.args.bytes.now (spec.nest c.args.end c.args.bytes.now c.args.levels) c.args.inside (from_tree c.parts.left.value) c.after-in-parts.result.now) _ c.from_residual.ensures.1 c.in_err-wider.ensures.exact
     (λ f h. turn_fails (at begins_join) (spec.join c.args.end c.args.bytes.now (spec.nest c.args.end c.args.bytes.now c.args.levels) c.args.inside) (there begins_join refl) (from_tree c.parts.left.value) c.parts.at c.args.ts.now f _ c.parts.invariant.exact words
     (ap (spec.join c.args.end c.args.bytes.now (spec.nest c.args.end c.args.bytes.now c.args.levels) c.args.inside (from_tree c.parts.left.value)) (sym c.after-in-parts.ensures) ∙ h))
 
@@ -90,7 +90,7 @@ joins-returns-clause-exact t c =
 pub more_from-returns-in_err-wider-clause-exact : goal.more_from-returns-in_err-wider-clause-exact
 more_from-returns-in_err-wider-clause-exact t c =
     let words = ap (λ l. is_comma (kind l)) (sym c.after.ensures) ∙ sym c.at_mark.ensures.value ∙ c.parts-test.true in
-    gives_exit (λ f. from_tree f.value) (λ f. from_tree f.value) c.in_err-wider.field-0.0 c.from_residual.result (spec.listed_part c.args.end c.args.bytes.now (spec.nest c.args.end c.args.bytes.now c.args.levels) (from_tree c.parts.left.value) c.after-in-parts.result.now) _ c.from_residual.ensures.1 c.in_err-wider.ensures.exact
+    gives_exit (λ f. from_tree f.value) from_tree c.in_err-wider.field-0.0 c.from_residual.result (spec.listed_part c.args.end c.args.bytes.now (spec.nest c.args.end c.args.bytes.now c.args.levels) (from_tree c.parts.left.value) c.after-in-parts.result.now) _ c.from_residual.ensures.1 c.in_err-wider.ensures.exact
     (λ f h. turn_fails (at is_comma) (spec.listed_part c.args.end c.args.bytes.now (spec.nest c.args.end c.args.bytes.now c.args.levels)) (there is_comma refl) (from_tree c.parts.left.value) c.parts.at c.args.ts.now f _ c.parts.invariant.exact words
     (ap (spec.listed_part c.args.end c.args.bytes.now (spec.nest c.args.end c.args.bytes.now c.args.levels) (from_tree c.parts.left.value)) (sym c.after-in-parts.ensures) ∙ h))
 

@@ -259,11 +259,7 @@ fn subquery(
     ensures within { IfOk result (λ x. x.1 ≤ length ts.now) }
 {
     let (query, n) = query(alloc, bytes, ts, end, levels)?;
-    let kind = CondKind::InQuery(
-        ColumnNames::from_vec(columns),
-        query,
-        word,
-    );
+    let kind = CondKind::InQuery(ColumnNames::from_vec(columns), query, word);
     Ok((Condition { at, kind }, n))
 }
 

@@ -1,5 +1,6 @@
 -- A plan no zone of which has both conditions and joins is placed.
-use Rattle.std.proofs.Common.{◌≡◌, ℕ, ◌+◌, ◌-◌, Bool, true, false, ◌&&◌, not, List, [], ◌∷◌, ◌++◌, map, refl, sym, ap, ◌∙◌}
+use Rattle.std.proofs.Common.{◌≡◌, ℕ, ◌+◌, Bool, true, false, ◌&&◌, List, [], ◌∷◌, ◌++◌, map, refl, sym, ap, ◌∙◌}
+use Rattle.wt_pred.specs.Tree.{PredTree}
 use Rattle.wt_plan.specs.Tree.{PlanTree, table, proj, filtered, inner_join, left_join, in_sub, dedup}
 use Rattle.wt_plan.specs.Measures.{width}
 use Rattle.wt_place.specs.Placing as placing
@@ -45,6 +46,18 @@ of_joins p j = (λ i. settle (j.none i) (j.itself i)) ∙ settle_none p
 of_conditions : (p : PlanTree) → Conditioned p → placed p ≡ p
 of_conditions p k = k.over (conditions p) ∙ k.itself
 
+filtered_over : (q : PredTree) (cols : List ℕ) (p : PlanTree) → Conditioned p → Conditioned (filtered q cols p)
+filtered_over q cols p k = record { over = k.over; itself = stand_last (conditions p) (test q cols) (bare p) ∙ ap (filtered q cols) k.itself }
+
+in_over : (cols : List ℕ) (l r : PlanTree) → Conditioned l → placed r ≡ r → Conditioned (in_sub cols l r)
+in_over cols l r k e = record { over = k.over; itself = stand_last (conditions l) (member cols (placed r)) (bare l) ∙ (λ i. in_sub cols (k.itself i) (e i)) }
+
+inner_over : (a b : List ℕ) (l r : PlanTree) → Joined l → Joined r → Joined (inner_join a b l r)
+inner_over a b l r j k = record { none = λ i. j.none i ++ map (moved (λ n. width l + n)) (k.none i); itself = λ i. inner_join a b (j.itself i) (k.itself i) }
+
+left_over : (a b : List ℕ) (l r : PlanTree) → Joined l → placed r ≡ r → Joined (left_join a b l r)
+left_over a b l r j e = record { none = j.none; itself = λ i. left_join a b (j.itself i) (e i) }
+
 mutual
   joined : (p : PlanTree) → is_settled Join p ≡ true → Joined p
   joined (table n w) e = record { none = refl; itself = refl }
@@ -52,30 +65,15 @@ mutual
   joined (dedup p) e = record { none = refl; itself = ap dedup (settled p e) }
   joined (filtered q cols p) e = absurd cc
   joined (in_sub cols l r) e = absurd cc
-  joined (inner_join a b l r) e =
-      let one = joined l (first _ _ e) in
-      let other = joined r (second _ _ e) in
-      record {
-        none = λ i. one.none i ++ map (moved (λ k. width l + k)) (other.none i);
-        itself = λ i. inner_join a b (one.itself i) (other.itself i);
-      }
-  joined (left_join a b l r) e =
-      let one = joined l (first _ _ e) in
-      record { none = one.none; itself = λ i. left_join a b (one.itself i) (settled r (second _ _ e) i) }
+  joined (inner_join a b l r) e = inner_over a b l r (joined l (first _ _ e)) (joined r (second _ _ e))
+  joined (left_join a b l r) e = left_over a b l r (joined l (first _ _ e)) (settled r (second _ _ e))
 
   conditioned : (p : PlanTree) → is_settled Condition p ≡ true → Conditioned p
   conditioned (table n w) e = record { over = λ cs. refl; itself = refl }
   conditioned (proj cols p) e = record { over = λ cs. refl; itself = ap (proj cols) (settled p e) }
   conditioned (dedup p) e = record { over = λ cs. refl; itself = ap dedup (settled p e) }
-  conditioned (filtered q cols p) e =
-      let k = conditioned p e in
-      record { over = k.over; itself = stand_last (conditions p) (test q cols) (bare p) ∙ ap (filtered q cols) k.itself }
-  conditioned (in_sub cols l r) e =
-      let k = conditioned l (first _ _ e) in
-      record {
-        over = k.over;
-        itself = stand_last (conditions l) (member cols (placed r)) (bare l) ∙ (λ i. in_sub cols (k.itself i) (settled r (second _ _ e) i));
-      }
+  conditioned (filtered q cols p) e = filtered_over q cols p (conditioned p e)
+  conditioned (in_sub cols l r) e = in_over cols l r (conditioned l (first _ _ e)) (settled r (second _ _ e))
   conditioned (inner_join a b l r) e = absurd cc
   conditioned (left_join a b l r) e = absurd cc
 
@@ -83,10 +81,10 @@ mutual
   settled (table n w) e = refl
   settled (proj cols p) e = ap (proj cols) (settled p e)
   settled (dedup p) e = ap dedup (settled p e)
-  settled (filtered q cols p) e = of_conditions (filtered q cols p) (conditioned (filtered q cols p) e)
-  settled (in_sub cols l r) e = of_conditions (in_sub cols l r) (conditioned (in_sub cols l r) e)
-  settled (inner_join a b l r) e = of_joins (inner_join a b l r) (joined (inner_join a b l r) e)
-  settled (left_join a b l r) e = of_joins (left_join a b l r) (joined (left_join a b l r) e)
+  settled (filtered q cols p) e = of_conditions (filtered q cols p) (filtered_over q cols p (conditioned p e))
+  settled (in_sub cols l r) e = of_conditions (in_sub cols l r) (in_over cols l r (conditioned l (first _ _ e)) (settled r (second _ _ e)))
+  settled (inner_join a b l r) e = of_joins (inner_join a b l r) (inner_over a b l r (joined l (first _ _ e)) (joined r (second _ _ e)))
+  settled (left_join a b l r) e = of_joins (left_join a b l r) (left_over a b l r (joined l (first _ _ e)) (settled r (second _ _ e)))
 
 pub settled_is_placed : (p : PlanTree) → is_settled Nothing p ≡ true → p ≡ placed p
 settled_is_placed p e = sym (settled p e)

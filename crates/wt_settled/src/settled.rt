@@ -59,6 +59,7 @@ fn is_settled(above: Above, plan: &Plan) -> bool
 }
 
 /// The placed form of a plan that is not needed any more: the plan itself, where no condition can move.
+#[tactic(auto, using(crate::proofs::Staying::settled_is_placed))]
 pub fn placed_form(alloc: Global, plan: Plan) -> Result<Plan, WantOfMemory>
     requires fits { ConditionsFit (plan_tree plan) }
     requires narrow { Narrow (plan_tree plan) }

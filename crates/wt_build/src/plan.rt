@@ -20,10 +20,10 @@ ghost use Rattle.wt_build.specs.Plans.{IsPlan};
 use crate::build::built_query;
 use std::alloc::Global;
 use wt_ast::Query;
-use wt_place::into_placed;
 use wt_plan::Named;
 use wt_query_plan::BuildError;
 use wt_schema::Schema;
+use wt_settled::placed_form;
 use wt_sources::Built;
 use wt_value::Names;
 
@@ -33,7 +33,7 @@ fn named(alloc: Global, built: Built) -> Result<Named, BuildError>
     ensures { Tells None (λ named. (plan_tree named.plan ≡ placed (plan_tree built.plan)) × (named.names ≡ built.names.items)) result }
 {
     let Built { plan, names, .. } = built;
-    let plan = into_placed(alloc, plan)?;
+    let plan = placed_form(alloc, plan)?;
     Ok(Named {
         plan,
         names: Names::from_vec(names),

@@ -7,6 +7,7 @@ ghost use Rattle.wt_plan.specs.Regular as regular;
 ghost use Rattle.wt_query_rows.specs.Scopes as scopes;
 ghost use Rattle.wt_query_plan.specs.Building as building;
 ghost use Rattle.wt_query_plan.specs.Faults as faults;
+ghost use Rattle.wt_query_plan.specs.Faults.{fault_if};
 ghost use Rattle.wt_query_plan.specs.declared.fault.BuildFault.TheVariants as fault_kinds;
 ghost use Rattle.wt_query_plan.specs.Telling.{Tells};
 ghost use Rattle.wt_resolve.specs.Scoping.{outside, inside, columns_of};
@@ -45,7 +46,7 @@ fn push_range(first: u32, count: u32, out: &mut Vec<u32>) -> Result<(), WantOfMe
 pub fn upto(alloc: Global, n: u32) -> Result<Vec<u32>, WantOfMemory>
     ensures { IfOk result (λ numbers. numbers.items ≡ regular.upto n) }
 {
-    let mut numbers = Vec::new(alloc);
+    let mut numbers = Vec::with_capacity(alloc, n as usize)?;
     for k in 0..n {
         numbers.push(k)?;
     }
@@ -119,23 +120,6 @@ fn places_of_alias(
     }
     let fault = alias_kind(alloc, scope, alias)?;
     Err(BuildError::Refused(fault, at))
-}
-
-/// The places that an item takes.
-fn item_places(alloc: Global, scope: &Scope, item: &Item) -> Result<Vec<u32>, BuildError>
-    requires narrow { length (inside scope.now) < 2 ^ 32 }
-    requires even { length scope.now.kinds.now ≡ length (inside scope.now) }
-    ensures { Tells (faults.item_fault (outside scope.now) (inside scope.now) item.now) (λ places. places.items ≡ building.item_places (inside scope.now) item.now) result }
-{
-    match item {
-        Item::Star { .. } => Ok(upto(alloc, scope.kinds.len() as u32)?),
-        Item::AllOf { alias, at } => places_of_alias(alloc, scope, alias, *at),
-        Item::Column { column: name, .. } => {
-            let mut places = Vec::new(alloc);
-            places.push(column(alloc, scope, name)?)?;
-            Ok(places)
-        }
-    }
 }
 
 /// Adds the names.
@@ -232,8 +216,26 @@ fn is_too_wide(before: usize, more: usize) -> bool
     before.saturating_add(more) > 16384
 }
 
-/// Adds the columns of an item. A query has at most 16,384.
+/// Adds the columns of an item whose places are known. A query has at most 16,384.
 #[tactic(auto, using(crate::proofs::Columns::item_width))]
+fn push_placed(
+    scope: &Scope,
+    item: &Item,
+    places: &[u32],
+    out: &mut Selected,
+) -> Result<(), BuildError>
+    requires even { length scope.now.kinds.now ≡ length (inside scope.now) }
+    requires known { places.now ≡ building.item_places (inside scope.now) item.now }
+    ensures { Tells (fault_if (nat_lt 16384 (length out.old.kinds.items + length (faults.item_kinds (inside scope.now) scope.now.kinds.now item.now))) fault_kinds.TooWide (faults.item_at item.now)) (λ _. Adds (inside scope.now) scope.now.kinds.now item.now out.old out.new) result }
+{
+    if is_too_wide(out.kinds.len(), places.len()) {
+        return Err(BuildError::Refused(BuildFault::TooWide, item_at(item)));
+    }
+    push_columns(scope, item, places, out)?;
+    Ok(())
+}
+
+/// Adds the columns of an item.
 fn push_item(
     alloc: Global,
     scope: &Scope,
@@ -244,12 +246,20 @@ fn push_item(
     requires even { length scope.now.kinds.now ≡ length (inside scope.now) }
     ensures { Tells (item_told (outside scope.now) (inside scope.now) scope.now.kinds.now (length out.old.kinds.items) item.now) (λ _. Adds (inside scope.now) scope.now.kinds.now item.now out.old out.new) result }
 {
-    let places = item_places(alloc, scope, item)?;
-    if is_too_wide(out.kinds.len(), places.len()) {
-        return Err(BuildError::Refused(BuildFault::TooWide, item_at(item)));
+    match item {
+        Item::Star { .. } => {
+            let places = upto(alloc, scope.kinds.len() as u32)?;
+            push_placed(scope, item, &places, out)
+        }
+        Item::AllOf { alias, at } => {
+            let places = places_of_alias(alloc, scope, alias, *at)?;
+            push_placed(scope, item, &places, out)
+        }
+        Item::Column { column: name, .. } => {
+            let place = column(alloc, scope, name)?;
+            push_placed(scope, item, &[place], out)
+        }
     }
-    push_columns(scope, item, &places, out)?;
-    Ok(())
 }
 
 /// The columns of a query's output.

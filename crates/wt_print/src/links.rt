@@ -11,7 +11,7 @@ use wt_ast::FromPart;
 use wt_value::WantOfMemory;
 
 // The left operand, where the part is a join or a comma.
-fn left_of(part: &FromPart) -> Option<&FromPart>
+pub(crate) fn left_of(part: &FromPart) -> Option<&FromPart>
     ensures smaller { IfSome result (λ left. size-FromPart left.now < size-FromPart part.now) }
     ensures text { IfSome result (λ left. spec.from_text (from_tree part.now) ≡ spec.from_text (from_tree left.now) ++ link_text (from_tree part.now)) }
     ensures fits { IfSome result (λ left. FitsFrom (from_tree left.now) → LinkFits (from_tree part.now) → FitsFrom (from_tree part.now)) }

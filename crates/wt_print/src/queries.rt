@@ -6,7 +6,7 @@ ghost use Rattle.wt_print.specs.Links.{link_text, join_text, LinkFits};
 ghost use Rattle.wt_spelling.specs.Numbers.{Fits, FitsCond, FitsConds, FitsFrom, FitsValue};
 ghost use Rattle.wt_spelling.specs.Spelling as spec;
 
-use crate::links::links;
+use crate::links::{left_of, links};
 use crate::names::{
     add_as, add_column, add_column_list, add_items, add_name, add_scalar, add_sign, add_tuple,
     add_values,
@@ -59,12 +59,15 @@ fn add_where(alloc: Global, out: &mut Vec<u8>, c: &Condition) -> Result<(), Want
 
 // ---- FROM
 
-// The chain of joins and commas is gone through by a loop, which takes no stack for its length.
+// The chain of joins and commas is gone through by a loop, which takes no stack for its length. A lone part takes no memory.
 #[cycle(print)]
 fn add_from(alloc: Global, out: &mut Vec<u8>, from: &FromPart) -> Result<(), WantOfMemory>
     ensures text { IfOk result (λ _. out.new.items ≡ out.old.items ++ spec.from_text (from_tree from.now)) }
     ensures fits { IfOk result (λ _. FitsFrom (from_tree from.now)) }
 {
+    if left_of(from).is_none() {
+        return add_link(alloc, out, from);
+    }
     let mut parts = links(alloc, from)?;
     'parts: while let Some(part) = parts.pop() {
         add_link(alloc, out, part)?;

@@ -2,6 +2,7 @@
 #![tactic(auto)]
 
 mod counting;
+mod descent;
 mod part;
 mod query;
 mod walk;

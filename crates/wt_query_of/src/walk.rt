@@ -9,8 +9,10 @@ ghost use Rattle.wt_blocks.specs.Blocks.{block, zone_of, plan_block, distinct};
 ghost use Rattle.wt_blocks.specs.Counting.{block_items, from_items, condition_items};
 ghost use Rattle.wt_blocks.specs.Printed as spec;
 ghost use Rattle.wt_tree_parts.specs.Leaves.{scope_of_leaves};
+ghost use Rattle.wt_query_of.specs.Descents.{IsItem, above_columns, above_from, added_conditions, added_items, items_behind};
 
 use crate::counting::counted;
+use crate::descent::{Descent, descend};
 use crate::part::{
     Part, Zone, all_columns, derived_part, inner_part, left_part, push_member, push_test,
     some_columns, table_part, taken,
@@ -20,6 +22,80 @@ use wt_ast::{Condition, Query};
 use wt_plan::Plan;
 use wt_schema::Schema;
 use wt_value::{Cols, WantOfMemory};
+
+/// A FROM item: a table, or a query in parentheses.
+#[cycle(walk)]
+fn item_part(
+    alloc: Global,
+    schema: &Schema,
+    item: &Plan,
+    next: &mut u64,
+) -> Result<Part, WantOfMemory>
+    requires item { IsItem (plan_tree item.now) }
+    requires narrow { Narrow (plan_tree item.now) }
+    requires cheap { cost (plan_tree item.now) < 2 ^ 62 }
+    requires room { next.old + from_items (zone_of (plan_tree item.now)) < 2 ^ 62 }
+    ensures from { IfOk result (λ p. trees.from_tree p.from ≡ spec.from_tree schema.now.tables next.old (zone_of (plan_tree item.now))) }
+    ensures columns { IfOk result (λ p. scope_of_leaves schema.now.tables p.leaves.items ≡ spec.zone_columns schema.now.tables next.old (zone_of (plan_tree item.now))) }
+    ensures next { OnOk result (next.new ≡ next.old + from_items (zone_of (plan_tree item.now))) }
+{
+    let number = taken(next);
+    match item {
+        Plan::Table(table, _) => table_part(alloc, schema, *table, number),
+        Plan::Proj(cols, inner) => {
+            let query = listed(alloc, schema, false, cols, inner, next)?;
+            derived_part(alloc, query, item.width(), number)
+        }
+        Plan::Dedup(inner) => {
+            let query = distinct_block(alloc, schema, inner, next)?;
+            derived_part(alloc, query, item.width(), number)
+        }
+        _ => unreachable!(),
+    }
+}
+
+/// What an operator makes of the part that its first operand is: it may add another operand, and conditions.
+#[cycle(walk)]
+fn above(
+    alloc: Global,
+    schema: &Schema,
+    operator: &Plan,
+    first: Part,
+    next: &mut u64,
+    behind: &mut u64,
+    conditions: &mut Vec<Condition>,
+) -> Result<Part, WantOfMemory>
+    requires narrow { Narrow (plan_tree operator.now) }
+    requires cheap { cost (plan_tree operator.now) < 2 ^ 62 }
+    requires room { next.old + (added_items (plan_tree operator.now) + items_behind (plan_tree operator.now)) < 2 ^ 62 }
+    requires behind { behind.old + items_behind (plan_tree operator.now) < 2 ^ 62 }
+    ensures from { IfOk result (λ p. trees.from_tree p.from ≡ above_from schema.now.tables next.old (trees.from_tree first.from) (scope_of_leaves schema.now.tables first.leaves.items) (plan_tree operator.now)) }
+    ensures columns { IfOk result (λ p. scope_of_leaves schema.now.tables p.leaves.items ≡ above_columns schema.now.tables next.old (scope_of_leaves schema.now.tables first.leaves.items) (plan_tree operator.now)) }
+    ensures conditions { OnOk result (map condition_tree conditions.new.items ≡ map condition_tree conditions.old.items ++ added_conditions schema.now.tables next.old behind.old (scope_of_leaves schema.now.tables first.leaves.items) (plan_tree operator.now)) }
+    ensures next { OnOk result (next.new ≡ next.old + added_items (plan_tree operator.now)) }
+    ensures behind { OnOk result (behind.new ≡ behind.old + items_behind (plan_tree operator.now)) }
+{
+    match operator {
+        Plan::Filter(pred, cols, _) => {
+            push_test(alloc, schema, &first.leaves, cols, pred, conditions)?;
+            Ok(first)
+        }
+        Plan::InSub(cols, _, right) => {
+            let query = whole_block(alloc, schema, right, behind)?;
+            push_member(alloc, schema, &first.leaves, cols, query, conditions)?;
+            Ok(first)
+        }
+        Plan::InnerJoin(a, b, _, right) => {
+            let other = part(alloc, schema, right, next, behind, conditions)?;
+            inner_part(alloc, schema, a, b, first, other)
+        }
+        Plan::LeftJoin(a, b, _, right) => {
+            let other = zone(alloc, schema, right, next)?;
+            left_part(alloc, schema, a, b, first, other)
+        }
+        Plan::Table(_, _) | Plan::Proj(_, _) | Plan::Dedup(_) => Ok(first),
+    }
+}
 
 /// The FROM clause of a zone, whose items are numbered from `next` on; its conditions are added, and the items in their
 /// subqueries numbered from `behind` on.
@@ -42,43 +118,13 @@ fn part(
     ensures next { OnOk result (next.new ≡ next.old + from_items (zone_of (plan_tree plan.now))) }
     ensures behind { OnOk result (behind.new ≡ behind.old + condition_items (zone_of (plan_tree plan.now))) }
 {
-    match plan {
-        Plan::Table(number, _) => {
-            let item = taken(next);
-            table_part(alloc, schema, *number, item)
-        }
-        Plan::Proj(cols, inner) => {
-            let item = taken(next);
-            let query = listed(alloc, schema, false, cols, inner, next)?;
-            derived_part(alloc, query, plan.width(), item)
-        }
-        Plan::Dedup(inner) => {
-            let item = taken(next);
-            let query = distinct_block(alloc, schema, inner, next)?;
-            derived_part(alloc, query, plan.width(), item)
-        }
-        Plan::Filter(pred, cols, inner) => {
-            let zone = part(alloc, schema, inner, next, behind, conditions)?;
-            push_test(alloc, schema, &zone.leaves, cols, pred, conditions)?;
-            Ok(zone)
-        }
-        Plan::InSub(cols, left, right) => {
-            let zone = part(alloc, schema, left, next, behind, conditions)?;
-            let query = whole_block(alloc, schema, right, behind)?;
-            push_member(alloc, schema, &zone.leaves, cols, query, conditions)?;
-            Ok(zone)
-        }
-        Plan::InnerJoin(a, b, left, right) => {
-            let one = part(alloc, schema, left, next, behind, conditions)?;
-            let other = part(alloc, schema, right, next, behind, conditions)?;
-            inner_part(alloc, schema, a, b, one, other)
-        }
-        Plan::LeftJoin(a, b, left, right) => {
-            let one = part(alloc, schema, left, next, behind, conditions)?;
-            let other = zone(alloc, schema, right, next)?;
-            left_part(alloc, schema, a, b, one, other)
-        }
+    let Descent { operators, item } = descend(alloc, plan)?;
+    let mut operators = operators;
+    let mut built = item_part(alloc, schema, item, next)?;
+    'operators: while let Some(operator) = operators.pop() {
+        built = above(alloc, schema, operator, built, next, behind, conditions)?;
     }
+    Ok(built)
 }
 
 /// A zone whose conditions stand directly behind its FROM clause.

@@ -40,7 +40,7 @@ pub fn with_names(
 ) -> Result<Items, WantOfMemory>
     ensures { IfOk result (λ is. is ≡ spec.named_items (scope_of_leaves sight.now.schema.now.tables sight.now.leaves.now) cols.now names.now) }
 {
-    let mut list = Vec::new(alloc);
+    let mut list = Vec::with_capacity(alloc, cols.len())?;
     push_named(alloc, sight, cols, names, &mut list)?;
     Ok(Items::from_vec(list))
 }

@@ -18,8 +18,8 @@ add_condition-returns-in_ok-add_column-in-IsNotNull-clause-text t c =
     ∙ ap (λ k. c.args.out.now.items ++ spec.cond_text c.args.whole (kind_tree c.args.c.now.at k)) (sym c.in-IsNotNull.is))
     c.extend_from_slice-in-IsNotNull.ensures.items
 
-pub add_from-add_link-requires : goal.add_from-add_link-requires
-add_from-add_link-requires t c =
+pub add_from-add_link-requires-in-Some : goal.add_from-add_link-requires-in-Some
+add_from-add_link-requires-in-Some t c =
     let small : size-FromPart c.in-Some.part.now ≤ size-FromPart c.args.from.now =
     (within_last (size-FromPart c.args.from.now) c.pop.new.self.items c.in-Some.part
     (subst (AreWithin (size-FromPart c.args.from.now)) c.in-Some.ensures.items c.parts.invariant.within)).0 in

@@ -3,7 +3,7 @@ use Rattle.wt_constraint.specs.declared.atom.Atom.TheVariants.{RelEq}
 use Rattle.wt_matching.specs.Matching.{AtomKnown}
 use Rattle.wt_found.specs.Seen.{assigned_in}
 use Rattle.wt_fill.proofs.Knowing.{each_more, each_whole}
-use Rattle.wt_fill.proofs.atoms.each_known.Goals as goal
+use Rattle.wt_fill.proofs.atoms.are_known.Goals as goal
 
 pub loop-atom-preserved : goal.loop-atom-preserved
 loop-atom-preserved g c =

@@ -26,11 +26,11 @@ use wt_rule::Rule;
 use wt_value::WantOfMemory;
 
 /// The plan of a draft, where it is regular and as wide as another plan. It is copied only then.
-fn copy_if_regular<F: Facts>(
+fn copy_if_regular<'a, F: Facts>(
     alloc: Global,
     facts: &F,
     plan: &Plan,
-    made: &Draft,
+    made: &'a Draft<'a>,
 ) -> Result<Option<Plan>, WantOfMemory>
     ensures is { IfOk result (λ o. IfSome o (λ p. plan_tree p ≡ draft_tree made.now)) }
     ensures regular { IfOk result (λ o. IfSome o (λ p. Regular (F.tables facts.now) (draft_tree made.now))) }

@@ -103,8 +103,8 @@ fn is_regular(tables: &[Table], plan: AnyPlan) -> bool
 
 /// Whether the plan that a draft is, is regular for a schema of these tables. The kind of a column is looked up by one walk, in time
 /// that goes with the number of nodes; no memory is taken.
-pub fn regular(tables: &[Table], plan: &Draft) -> bool
+pub fn regular<'a>(tables: &[Table], plan: &'a Draft<'a>) -> bool
     ensures exact { IsTrue result ↔ Regular tables.now (draft_tree plan.now) }
 {
-    is_regular(tables, AnyPlan::Draft(&*plan))
+    is_regular(tables, AnyPlan::Draft(plan))
 }

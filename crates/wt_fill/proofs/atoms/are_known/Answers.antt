@@ -11,5 +11,6 @@ loop-atom-preserved g c =
     c.loop-atom.invariant (c.in_ok-is_known.ensures.0 (search rules))
 
 pub returns : goal.returns
-returns g c =
-    (λ _. each_whole (AtomKnown (g.F.Facts.tables c.args.facts.now) c.args.given.now.anchors.now (assigned_in c.args.given.now.found.now)) c.args.atoms.now c.loop-atom.atom-index c.loop-atom-test.false c.loop-atom.invariant, λ _. search rules)
+returns g c = record {
+  exact = (λ _. each_whole (AtomKnown (g.F.Facts.tables c.args.facts.now) c.args.given.now.anchors.now (assigned_in c.args.given.now.found.now)) c.args.atoms.now c.loop-atom.atom-index c.loop-atom-test.false c.loop-atom.invariant, λ _. search rules);
+}

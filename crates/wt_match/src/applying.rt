@@ -26,18 +26,18 @@ use wt_rule::Rule;
 use wt_value::WantOfMemory;
 
 /// The plan of a draft, where it is regular and as wide as another plan. It is copied only then.
-fn copy_if_regular<'a, F: Facts>(
+fn copy_if_regular<F: Facts>(
     alloc: Global,
     facts: &F,
     plan: &Plan,
-    made: &'a Draft<'a>,
+    made: &Draft,
 ) -> Result<Option<Plan>, WantOfMemory>
     ensures is { IfOk result (λ o. IfSome o (λ p. plan_tree p ≡ draft_tree made.now)) }
     ensures regular { IfOk result (λ o. IfSome o (λ p. Regular (F.tables facts.now) (draft_tree made.now))) }
     ensures wide { IfOk result (λ o. IfSome o (λ p. width (draft_tree made.now) ≡ width (plan_tree plan.now))) }
     ensures none { IfOk result (λ o. IfNone o (Regular (F.tables facts.now) (draft_tree made.now) → width (draft_tree made.now) ≡ width (plan_tree plan.now) → ⊥)) }
 {
-    if made.width() == plan.width() && facts.regular(made) {
+    if made.width() == plan.width() && facts.regular(&*made) {
         Ok(Some(made.copy(alloc)?))
     } else {
         Ok(None)
@@ -45,13 +45,13 @@ fn copy_if_regular<'a, F: Facts>(
 }
 
 /// What a rule gives at a node, where this is given for its symbols: what the walk of its source and of the subplan there found.
-fn applied_given<F: Facts>(
+fn applied_given<'p, F: Facts>(
     alloc: Global,
     facts: &F,
     rule: &Rule,
     atoms: &[Atom],
-    given: &Given,
-    plan: &Plan,
+    given: &Given<'p>,
+    plan: &'p Plan,
     node: u32,
 ) -> Result<Option<Plan>, WantOfMemory>
     requires lawful { IsLawful (pair_of rule.now.pair) }
@@ -94,7 +94,7 @@ pub fn applied<F: Facts>(
         found,
         blank: &blank,
     };
-    applied_given(alloc, facts, rule, atoms, &given, plan, node)
+    applied_given(alloc, facts, rule, atoms, &given, &*plan, node)
 }
 
 /// The plan with the rule's destination in the place of its match at a node; None exactly where the rule has no match there.

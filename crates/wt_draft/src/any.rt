@@ -12,24 +12,24 @@ use wt_value::Cols;
 
 /// A plan or a draft.
 #[derive(Clone, Copy)]
-pub enum AnyPlan<'a> {
-    Plan(&'a Plan),
-    Draft(&'a Draft<'a>),
+pub enum AnyPlan<'d, 'p> {
+    Plan(&'d Plan),
+    Draft(&'d Draft<'p>),
 }
 
 /// The root of a plan or a draft, with its operands.
 #[derive(Clone, Copy)]
-pub enum Root<'a> {
+pub enum Root<'d, 'p> {
     Table(u32, u32),
-    Proj(&'a Cols, AnyPlan<'a>),
-    Filter(&'a Pred, &'a Cols, AnyPlan<'a>),
-    InnerJoin(&'a Cols, &'a Cols, AnyPlan<'a>, AnyPlan<'a>),
-    LeftJoin(&'a Cols, &'a Cols, AnyPlan<'a>, AnyPlan<'a>),
-    InSub(&'a Cols, AnyPlan<'a>, AnyPlan<'a>),
-    Dedup(AnyPlan<'a>),
+    Proj(&'d Cols, AnyPlan<'d, 'p>),
+    Filter(&'d Pred, &'d Cols, AnyPlan<'d, 'p>),
+    InnerJoin(&'d Cols, &'d Cols, AnyPlan<'d, 'p>, AnyPlan<'d, 'p>),
+    LeftJoin(&'d Cols, &'d Cols, AnyPlan<'d, 'p>, AnyPlan<'d, 'p>),
+    InSub(&'d Cols, AnyPlan<'d, 'p>, AnyPlan<'d, 'p>),
+    Dedup(AnyPlan<'d, 'p>),
 }
 
-fn root_of_plan(plan: &Plan) -> Root<'_>
+fn root_of_plan<'d, 'p>(plan: &'d Plan) -> Root<'d, 'p>
     ensures { root_tree result ≡ plan_tree plan.now }
 {
     match plan {
@@ -43,7 +43,7 @@ fn root_of_plan(plan: &Plan) -> Root<'_>
     }
 }
 
-fn root_of_draft<'a>(draft: &'a Draft<'a>) -> Root<'a>
+fn root_of_draft<'d, 'p>(draft: &'d Draft<'p>) -> Root<'d, 'p>
     ensures { root_tree result ≡ draft_tree draft.now }
 {
     match draft {
@@ -63,9 +63,9 @@ fn root_of_draft<'a>(draft: &'a Draft<'a>) -> Root<'a>
     }
 }
 
-impl<'a> AnyPlan<'a> {
+impl<'d, 'p> AnyPlan<'d, 'p> {
     /// Its root.
-    pub fn root(self) -> Root<'a>
+    pub fn root(self) -> Root<'d, 'p>
         ensures exact { root_tree result ≡ any_tree self.entry }
     {
         match self {

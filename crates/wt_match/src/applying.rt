@@ -37,7 +37,7 @@ fn copy_if_regular<F: Facts>(
     ensures wide { IfOk result (λ o. IfSome o (λ p. width (draft_tree made.now) ≡ width (plan_tree plan.now))) }
     ensures none { IfOk result (λ o. IfNone o (Regular (F.tables facts.now) (draft_tree made.now) → width (draft_tree made.now) ≡ width (plan_tree plan.now) → ⊥)) }
 {
-    if made.width() == plan.width() && facts.regular(&*made) {
+    if made.width() == plan.width() && facts.regular(made) {
         Ok(Some(made.copy(alloc)?))
     } else {
         Ok(None)

@@ -43,6 +43,6 @@ pub trait Facts {
         ensures exact { IfOk result (λ yes. yes ≡ refers (tables self.now) (plan_tree plan.now) cols.now (plan_tree target.now) target_cols.now) };
 
     /// Whether the plan that a draft is, is regular for the schema.
-    fn regular<'a>(&self, plan: &'a Draft<'a>) -> bool
+    fn regular(&self, plan: &Draft) -> bool
         ensures exact { IsTrue result ↔ Regular (tables self.now) (draft_tree plan.now) };
 }

@@ -58,7 +58,7 @@ impl<'a> Facts for Known<'a> {
         )
     }
 
-    fn regular<'d>(&self, plan: &'d Draft<'d>) -> bool {
+    fn regular(&self, plan: &Draft) -> bool {
         wt_regularity::regular(self.schema.tables.as_slice(), plan)
     }
 }

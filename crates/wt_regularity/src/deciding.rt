@@ -103,7 +103,7 @@ fn is_regular(tables: &[Table], plan: AnyPlan) -> bool
 
 /// Whether the plan that a draft is, is regular for a schema of these tables. The kind of a column is looked up by one walk, in time
 /// that goes with the number of nodes; no memory is taken.
-pub fn regular<'a>(tables: &[Table], plan: &'a Draft<'a>) -> bool
+pub fn regular(tables: &[Table], plan: &Draft) -> bool
     ensures exact { IsTrue result ↔ Regular tables.now (draft_tree plan.now) }
 {
     is_regular(tables, AnyPlan::Draft(plan))

@@ -15,9 +15,9 @@ use wt_value::{Cols, Value};
 
 /// The columns that a filter's predicate is over: those of a list, in the filter's operand.
 #[derive(Clone, Copy)]
-struct Listed<'a, 'p> {
+struct Listed<'a, 'd, 'p> {
     tables: &'a [Table],
-    operand: AnyPlan<'p>,
+    operand: AnyPlan<'d, 'p>,
     cols: &'a [u32],
 }
 

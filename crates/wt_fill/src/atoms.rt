@@ -5,13 +5,11 @@ ghost use Rattle.wt_matching.specs.Matching.{AtomKnown};
 ghost use Rattle.wt_found.specs.Seen.{assigned_in};
 ghost use Rattle.wt_fill.specs.Blanks.{IsBlank};
 
-use crate::given::{Blank, Given};
+use crate::given::Given;
 use crate::same::is_same;
 use std::alloc::Global;
 use wt_constraint::Atom;
-use wt_found::Found;
 use wt_plan_facts::Facts;
-use wt_symbol::Anchors;
 use wt_value::WantOfMemory;
 
 /// Whether an atom is known.
@@ -38,14 +36,14 @@ fn is_known<F: Facts>(
 }
 
 /// Whether each of some atoms is known; they are asked for in their order.
-fn each_known<F: Facts>(
+pub fn are_known<F: Facts>(
     alloc: Global,
     facts: &F,
     given: &Given,
     atoms: &[Atom],
 ) -> Result<bool, WantOfMemory>
-    requires { IsBlank given.now.blank.now }
-    ensures { IfOk result (λ yes. IsTrue yes ↔ Each (AtomKnown (F.tables facts.now) given.now.anchors.now (assigned_in given.now.found.now)) atoms.now) }
+    requires blank { IsBlank given.now.blank.now }
+    ensures exact { IfOk result (λ yes. IsTrue yes ↔ Each (AtomKnown (F.tables facts.now) given.now.anchors.now (assigned_in given.now.found.now)) atoms.now) }
 {
     for atom in atoms {
         if !is_known(alloc, facts, given, *atom)? {
@@ -53,23 +51,4 @@ fn each_known<F: Facts>(
         }
     }
     Ok(true)
-}
-
-/// Whether each of some atoms is known of what was found.
-pub fn are_known<F: Facts>(
-    alloc: Global,
-    facts: &F,
-    anchors: &Anchors,
-    found: &Found,
-    atoms: &[Atom],
-) -> Result<bool, WantOfMemory>
-    ensures { IfOk result (λ yes. IsTrue yes ↔ Each (AtomKnown (F.tables facts.now) anchors.now (assigned_in found.now)) atoms.now) }
-{
-    let blank = Blank::new(alloc);
-    let given = Given {
-        anchors,
-        found,
-        blank: &blank,
-    };
-    each_known(alloc, facts, &given, atoms)
 }

@@ -2,17 +2,17 @@
 ghost use Rattle.std.specs.Prelude.{◌≡◌, ◌++◌, map, min, IfOk};
 ghost use Rattle.wt_bag.specs.Bags.{Each};
 ghost use Rattle.wt_symbol.specs.Sides.{tree_of};
-ghost use Rattle.wt_plan.specs.Tree.{plan_tree};
 ghost use Rattle.wt_plan.specs.WellFormed.{Narrow};
+ghost use Rattle.wt_draft.specs.Drafts.{listed, draft_tree};
 ghost use Rattle.wt_matching.specs.Filling as filling;
 ghost use Rattle.wt_found.specs.Seen.{named, plans_behind, assigned_in};
 ghost use Rattle.wt_fill.specs.Blanks.{IsBlank};
 ghost use Rattle.wt_fill.specs.Capped as spec;
 
-use crate::given::{Blank, Given};
+use crate::given::Given;
 use std::alloc::Global;
+use wt_draft::{Draft, Places};
 use wt_found::{Found, Shown, leaf_columns, list_columns, place};
-use wt_plan::Plan;
 use wt_symbol::{Anchors, Side};
 use wt_value::{Cols, WantOfMemory};
 
@@ -81,98 +81,80 @@ fn places_in(alloc: Global, side: &Side, given: &Given, list: u8) -> Result<Cols
 }
 
 /// The places of a join's two lists.
-fn both_places(
+fn both_places<'a>(
     alloc: Global,
     left: &Side,
     right: &Side,
     given: &Given,
     a: u8,
     b: u8,
-) -> Result<(Cols, Cols), WantOfMemory>
+) -> Result<(Places<'a>, Places<'a>), WantOfMemory>
     requires blank { IsBlank given.now.blank.now }
     requires narrow { Each Narrow (plans_behind given.now.found.now.leaves.items) }
-    ensures left { IfOk result (λ both. both.0 ≡ spec.capped_places (tree_of left.now) given.now.anchors.now (assigned_in given.now.found.now) a) }
-    ensures right { IfOk result (λ both. both.1 ≡ spec.capped_places (tree_of right.now) given.now.anchors.now (assigned_in given.now.found.now) b) }
+    ensures left { IfOk result (λ both. listed both.0 ≡ spec.capped_places (tree_of left.now) given.now.anchors.now (assigned_in given.now.found.now) a) }
+    ensures right { IfOk result (λ both. listed both.1 ≡ spec.capped_places (tree_of right.now) given.now.anchors.now (assigned_in given.now.found.now) b) }
 {
     let lefts = places_in(alloc, left, given, a)?;
-    Ok((lefts, places_in(alloc, right, given, b)?))
+    let rights = places_in(alloc, right, given, b)?;
+    Ok((Places::Own(lefts), Places::Own(rights)))
 }
 
 /// Both operands filled in.
 #[cycle(fill)]
-fn fill_both(
+fn fill_both<'a>(
     alloc: Global,
     left: &Side,
     right: &Side,
-    given: &Given,
-) -> Result<(Box<Plan>, Box<Plan>), WantOfMemory>
+    given: &Given<'a>,
+) -> Result<(Box<Draft<'a>>, Box<Draft<'a>>), WantOfMemory>
     requires blank { IsBlank given.now.blank.now }
     requires narrow { Each Narrow (plans_behind given.now.found.now.leaves.items) }
-    ensures left { IfOk result (λ both. plan_tree both.0.value ≡ spec.capped_fill (tree_of left.now) given.now.anchors.now (assigned_in given.now.found.now)) }
-    ensures right { IfOk result (λ both. plan_tree both.1.value ≡ spec.capped_fill (tree_of right.now) given.now.anchors.now (assigned_in given.now.found.now)) }
+    ensures left { IfOk result (λ both. draft_tree both.0.value ≡ spec.capped_fill (tree_of left.now) given.now.anchors.now (assigned_in given.now.found.now)) }
+    ensures right { IfOk result (λ both. draft_tree both.1.value ≡ spec.capped_fill (tree_of right.now) given.now.anchors.now (assigned_in given.now.found.now)) }
 {
-    let left = Box::new(alloc, fill_in(alloc, left, given)?)?;
-    let right = fill_in(alloc, right, given)?;
+    let left = Box::new(alloc, fill(alloc, left, given)?)?;
+    let right = fill(alloc, right, given)?;
     Ok((left, Box::new(alloc, right)?))
 }
 
-/// The side filled in, operator by operator.
+/// The side filled in with what is given, operator by operator: its leaves and predicates are borrowed. A place past the numbers of
+/// 32 bits, which no plan with narrow nodes has, is the greatest of them.
 #[cycle(fill)]
-fn fill_in(alloc: Global, side: &Side, given: &Given) -> Result<Plan, WantOfMemory>
+pub fn fill<'a>(alloc: Global, side: &Side, given: &Given<'a>) -> Result<Draft<'a>, WantOfMemory>
     requires blank { IsBlank given.now.blank.now }
     requires narrow { Each Narrow (plans_behind given.now.found.now.leaves.items) }
-    ensures { IfOk result (λ plan. plan_tree plan ≡ spec.capped_fill (tree_of side.now) given.now.anchors.now (assigned_in given.now.found.now)) }
+    ensures exact { IfOk result (λ draft. draft_tree draft ≡ spec.capped_fill (tree_of side.now) given.now.anchors.now (assigned_in given.now.found.now)) }
 {
     match side {
-        Side::Input(leaf) => given.leaf(*leaf).copy(alloc),
+        Side::Input(leaf) => Ok(Draft::Whole(given.leaf(*leaf))),
         Side::Proj(a, s) => {
-            let places = places_in(alloc, s, given, *a)?;
-            let below = fill_in(alloc, s, given)?;
-            Ok(Plan::Proj(places, Box::new(alloc, below)?))
+            let places = Places::Own(places_in(alloc, s, given, *a)?);
+            let below = fill(alloc, s, given)?;
+            Ok(Draft::Proj(places, Box::new(alloc, below)?))
         }
         Side::Filter(p, a, s) => {
-            let places = places_in(alloc, s, given, *a)?;
-            let below = Box::new(alloc, fill_in(alloc, s, given)?)?;
-            Ok(Plan::Filter(given.pred(*p).copy(alloc)?, places, below))
+            let places = Places::Own(places_in(alloc, s, given, *a)?);
+            let below = fill(alloc, s, given)?;
+            Ok(Draft::Filter(given.pred(*p), places, Box::new(alloc, below)?))
         }
         Side::InnerJoin(a, b, s, t) => {
             let (lefts, rights) = both_places(alloc, s, t, given, *a, *b)?;
             let (left, right) = fill_both(alloc, s, t, given)?;
-            Ok(Plan::InnerJoin(lefts, rights, left, right))
+            Ok(Draft::InnerJoin(lefts, rights, left, right))
         }
         Side::LeftJoin(a, b, s, t) => {
             let (lefts, rights) = both_places(alloc, s, t, given, *a, *b)?;
             let (left, right) = fill_both(alloc, s, t, given)?;
-            Ok(Plan::LeftJoin(lefts, rights, left, right))
+            Ok(Draft::LeftJoin(lefts, rights, left, right))
         }
         Side::InSub(a, s, t) => {
-            let places = places_in(alloc, s, given, *a)?;
+            let places = Places::Own(places_in(alloc, s, given, *a)?);
             let (left, right) = fill_both(alloc, s, t, given)?;
-            Ok(Plan::InSub(places, left, right))
+            Ok(Draft::InSub(places, left, right))
         }
         Side::Dedup(s) => {
-            let below = fill_in(alloc, s, given)?;
-            Ok(Plan::Dedup(Box::new(alloc, below)?))
+            let below = fill(alloc, s, given)?;
+            Ok(Draft::Dedup(Box::new(alloc, below)?))
         }
     }
-}
-
-/// The side filled in with what was found; a place past the numbers of 32 bits, which no plan with narrow nodes has, is the greatest
-/// of them.
-pub fn fill(
-    alloc: Global,
-    side: &Side,
-    anchors: &Anchors,
-    found: &Found,
-) -> Result<Plan, WantOfMemory>
-    requires narrow { Each Narrow (plans_behind found.now.leaves.items) }
-    ensures exact { IfOk result (λ plan. plan_tree plan ≡ spec.capped_fill (tree_of side.now) anchors.now (assigned_in found.now)) }
-{
-    let blank = Blank::new(alloc);
-    let given = Given {
-        anchors,
-        found,
-        blank: &blank,
-    };
-    fill_in(alloc, side, &given)
 }

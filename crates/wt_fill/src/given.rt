@@ -24,8 +24,8 @@ pub struct Blank {
 
 impl Blank {
     /// The table without columns, no numbers, and the conjunction of nothing.
-    pub(crate) fn new(alloc: Global) -> Blank
-        ensures { IsBlank result }
+    pub fn new(alloc: Global) -> Blank
+        ensures blank { IsBlank result }
     {
         Blank {
             plan: Plan::Table(0, 0),

@@ -9,4 +9,5 @@ mod same;
 
 pub use atoms::are_known;
 pub use filling::fill;
+pub use given::{Blank, Given};
 pub use nodes::{plan_at, put_at};

@@ -1,12 +1,14 @@
 //! The nodes of a plan, numbered in preorder from 0.
 ghost use Rattle.std.specs.Prelude.{◌≡◌, ◌+◌, ◌^◌, ◌<◌, IfOk};
 ghost use Rattle.wt_plan.specs.Tree.{plan_tree};
+ghost use Rattle.wt_draft.specs.Drafts.{draft_tree};
 ghost use Rattle.wt_matching.specs.Nodes as spec;
 ghost use Rattle.wt_fill.specs.Pairs.{put_left, put_right};
 
 use std::alloc::Global;
+use wt_draft::{Draft, Places};
 use wt_plan::Plan;
-use wt_value::{Cols, WantOfMemory};
+use wt_value::WantOfMemory;
 
 /// The subplan at a node.
 pub fn plan_at(plan: &Plan, node: u32) -> &Plan
@@ -29,77 +31,69 @@ pub fn plan_at(plan: &Plan, node: u32) -> &Plan
     }
 }
 
-/// Copies of two lists.
-fn both_lists(lefts: &Cols, rights: &Cols) -> Result<(Cols, Cols), WantOfMemory>
-    ensures left { IfOk result (λ both. both.0 ≡ lefts.now) }
-    ensures right { IfOk result (λ both. both.1 ≡ rights.now) }
-{
-    let copy = lefts.clone()?;
-    Ok((copy, rights.clone()?))
-}
-
-/// Both operands of a node, the subplan at a node behind it replaced.
+/// Both operands of a node, another plan put at a node behind it.
 #[cycle(put)]
-fn put_in_one(
+fn put_in_one<'a>(
     alloc: Global,
-    left: &Plan,
-    right: &Plan,
+    left: &'a Plan,
+    right: &'a Plan,
     node: u32,
-    new: &Plan,
-) -> Result<(Box<Plan>, Box<Plan>), WantOfMemory>
+    new: Draft<'a>,
+) -> Result<(Box<Draft<'a>>, Box<Draft<'a>>), WantOfMemory>
     requires { node + 1 < 2 ^ 32 }
-    ensures left { IfOk result (λ both. plan_tree both.0.value ≡ put_left (plan_tree left.now) node (plan_tree new.now)) }
-    ensures right { IfOk result (λ both. plan_tree both.1.value ≡ put_right (plan_tree left.now) (plan_tree right.now) node (plan_tree new.now)) }
+    ensures left { IfOk result (λ both. draft_tree both.0.value ≡ put_left (plan_tree left.now) node (draft_tree new.entry)) }
+    ensures right { IfOk result (λ both. draft_tree both.1.value ≡ put_right (plan_tree left.now) (plan_tree right.now) node (draft_tree new.entry)) }
 {
     let count = left.node_count();
     if node < count {
-        let left = Box::new(alloc, put_at(alloc, left, node, new)?)?;
-        Ok((left, Box::new(alloc, right.copy(alloc)?)?))
+        let left = put_at(alloc, left, node, new)?;
+        let left = Box::new(alloc, left)?;
+        Ok((left, Box::new(alloc, Draft::Whole(right))?))
     } else {
-        let left = Box::new(alloc, left.copy(alloc)?)?;
         let right = put_at(alloc, right, node - count, new)?;
-        Ok((left, Box::new(alloc, right)?))
+        let right = Box::new(alloc, right)?;
+        Ok((Box::new(alloc, Draft::Whole(left))?, right))
     }
 }
 
-/// The plan with another subplan at a node.
+/// The plan with another one at a node. What is around the node is borrowed.
 #[cycle(put)]
-pub fn put_at(alloc: Global, plan: &Plan, node: u32, new: &Plan) -> Result<Plan, WantOfMemory>
-    ensures { IfOk result (λ p. plan_tree p ≡ spec.put (plan_tree plan.now) node (plan_tree new.now)) }
+pub fn put_at<'a>(
+    alloc: Global,
+    plan: &'a Plan,
+    node: u32,
+    new: Draft<'a>,
+) -> Result<Draft<'a>, WantOfMemory>
+    ensures exact { IfOk result (λ draft. draft_tree draft ≡ spec.put (plan_tree plan.now) node (draft_tree new.entry)) }
 {
     if node == 0 {
-        return new.copy(alloc);
+        return Ok(new);
     }
     match plan {
-        Plan::Table(t, w) => Ok(Plan::Table(*t, *w)),
+        Plan::Table(_, _) => Ok(Draft::Whole(plan)),
         Plan::Proj(cols, p) => {
-            let cols = cols.clone()?;
             let operand = put_at(alloc, p, node - 1, new)?;
-            Ok(Plan::Proj(cols, Box::new(alloc, operand)?))
+            Ok(Draft::Proj(Places::Of(cols), Box::new(alloc, operand)?))
         }
         Plan::Filter(pred, cols, p) => {
-            let cols = cols.clone()?;
-            let operand = Box::new(alloc, put_at(alloc, p, node - 1, new)?)?;
-            Ok(Plan::Filter(pred.copy(alloc)?, cols, operand))
+            let operand = put_at(alloc, p, node - 1, new)?;
+            Ok(Draft::Filter(pred, Places::Of(cols), Box::new(alloc, operand)?))
         }
         Plan::InnerJoin(a, b, p, q) => {
-            let (lefts, rights) = both_lists(a, b)?;
             let (left, right) = put_in_one(alloc, p, q, node - 1, new)?;
-            Ok(Plan::InnerJoin(lefts, rights, left, right))
+            Ok(Draft::InnerJoin(Places::Of(a), Places::Of(b), left, right))
         }
         Plan::LeftJoin(a, b, p, q) => {
-            let (lefts, rights) = both_lists(a, b)?;
             let (left, right) = put_in_one(alloc, p, q, node - 1, new)?;
-            Ok(Plan::LeftJoin(lefts, rights, left, right))
+            Ok(Draft::LeftJoin(Places::Of(a), Places::Of(b), left, right))
         }
         Plan::InSub(cols, p, q) => {
-            let cols = cols.clone()?;
             let (left, right) = put_in_one(alloc, p, q, node - 1, new)?;
-            Ok(Plan::InSub(cols, left, right))
+            Ok(Draft::InSub(Places::Of(cols), left, right))
         }
         Plan::Dedup(p) => {
             let operand = put_at(alloc, p, node - 1, new)?;
-            Ok(Plan::Dedup(Box::new(alloc, operand)?))
+            Ok(Draft::Dedup(Box::new(alloc, operand)?))
         }
     }
 }

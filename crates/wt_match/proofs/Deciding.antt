@@ -1,6 +1,6 @@
 -- What was found is a match where each test passes, and where one fails it is none.
 use Rattle.std.proofs.Common.{◌≡◌, ℕ, ◌<◌, Bool, true, false, List, sym, ap, ◌∙◌, subst}
-use Rattle.std.specs.Prelude.{Option, Some, None, IfSome, IfNone, IsTrue}
+use Rattle.std.specs.Prelude.{Option, Some, None, Result, Ok, Err, IfOk, IfSome, IfNone, IsTrue}
 use Rattle.wt_bag.specs.Bags.{Each}
 use Rattle.wt_symbol.specs.Sides.{PairTree}
 use Rattle.wt_symbol.specs.Lawful.{IsLawful}
@@ -64,13 +64,20 @@ module _ (S : List Table) (p : PairTree) (set : AtomSet) (lawful : IsLawful p) (
         k (subst (λ z. IsMatch S p set plan n z) (seen.2 ∙ ap given same) h)
 
     -- the plan that was made, where it is regular and as wide
-    pub gives_regular : n < node_count plan → Each (AtomKnown S p.anchors (given x)) (asked p set) → (q : PlanTree) → q ≡ put plan n (capped_fill p.dest p.anchors (given x)) → (o : Option Plan) →
+    gives_regular : n < node_count plan → Each (AtomKnown S p.anchors (given x)) (asked p set) → (q : PlanTree) → q ≡ put plan n (capped_fill p.dest p.anchors (given x)) → (o : Option Plan) →
         IfSome o (λ r. plan_tree r ≡ q) → IfSome o (λ r. Regular S q) → IfSome o (λ r. width q ≡ width plan) → IfNone o (Regular S q → width q ≡ width plan → ⊥) →
         GivesAt S p set plan n o
     gives_regular within known q e (Some r) is regular wide none =
         let made = made_where_regular within q e regular in
         (given x, is_a_match within known q made regular wide, is ∙ made)
     gives_regular within known q e None is regular wide none = only_found (no_regular within q e none)
+
+    -- the same of a result, where the plan is copied then
+    pub gives_copied : {E : Type 0} → n < node_count plan → Each (AtomKnown S p.anchors (given x)) (asked p set) → (q : PlanTree) → q ≡ put plan n (capped_fill p.dest p.anchors (given x)) →
+        (r : Result (Option Plan) E) → IfOk r (λ o. IfSome o (λ z. plan_tree z ≡ q)) → IfOk r (λ o. IfSome o (λ z. Regular S q)) → IfOk r (λ o. IfSome o (λ z. width q ≡ width plan)) →
+        IfOk r (λ o. IfNone o (Regular S q → width q ≡ width plan → ⊥)) → IfOk r (λ o. GivesAt S p set plan n o)
+    gives_copied within known q e (Ok o) is regular wide none = gives_regular within known q e o is regular wide none
+    gives_copied within known q e (Err x) is regular wide none = tt
 
   pub none_found : nothing ≡ found p.source p.anchors (at plan n) → (m : Assigned) → IsMatch S p set plan n m → ⊥
   none_found e m h = let seen = match_found p lawful S set plan n m h in nothing_just seen.0 (e ∙ seen.1)

@@ -5,9 +5,11 @@ ghost use Rattle.wt_schema.specs.declared.schema.Table.{Table};
 ghost use Rattle.wt_schema.specs.Lawful.{IsSchema};
 ghost use Rattle.wt_plan.specs.Tree.{plan_tree};
 ghost use Rattle.wt_plan.specs.Regular.{Regular};
+ghost use Rattle.wt_draft.specs.Drafts.{draft_tree};
 ghost use Rattle.wt_known.specs.Facts.{unique, not_null, refers};
 
 use std::alloc::Global;
+use wt_draft::Draft;
 use wt_plan::Plan;
 use wt_value::{Cols, WantOfMemory};
 
@@ -40,7 +42,7 @@ pub trait Facts {
     ) -> Result<bool, WantOfMemory>
         ensures exact { IfOk result (λ yes. yes ≡ refers (tables self.now) (plan_tree plan.now) cols.now (plan_tree target.now) target_cols.now) };
 
-    /// Whether the plan is regular for the schema.
-    fn regular(&self, plan: &Plan) -> bool
-        ensures exact { IsTrue result ↔ Regular (tables self.now) (plan_tree plan.now) };
+    /// Whether the plan that a draft is, is regular for the schema.
+    fn regular(&self, plan: &Draft) -> bool
+        ensures exact { IsTrue result ↔ Regular (tables self.now) (draft_tree plan.now) };
 }

@@ -4,6 +4,7 @@ ghost use Rattle.std.specs.Prelude.{◌≡◌};
 use crate::not_null::are_not_null;
 use crate::references::is_reference;
 use std::alloc::Global;
+use wt_draft::Draft;
 use wt_plan::Plan;
 use wt_plan_facts::Facts;
 use wt_schema::Schema;
@@ -57,7 +58,7 @@ impl<'a> Facts for Known<'a> {
         )
     }
 
-    fn regular(&self, plan: &Plan) -> bool {
+    fn regular(&self, plan: &Draft) -> bool {
         wt_regularity::regular(self.schema.tables.as_slice(), plan)
     }
 }

@@ -8,15 +8,15 @@ use Rattle.wt_pred.specs.declared.tree.Operand.{Operand}
 use Rattle.wt_pred.specs.declared.tree.Operand.TheVariants.{Column, Constant}
 use Rattle.wt_pred.specs.Tree.{PredTree, PredTrees, compare, is_null, is_not_null, in_list, all_of, any_of, negated, no_preds, pred_then}
 use Rattle.wt_schema.specs.declared.schema.ColKind.{ColKind}
-use Rattle.wt_plan.specs.Tree.{plan_tree}
 use Rattle.wt_plan.specs.Regular.{kind_at, kinds_at, plan_kinds, value_kind, operand_kind}
+use Rattle.wt_draft.specs.Roots.{any_tree}
 use Rattle.wt_regularity.specs.declared.predicate.Listed.{Listed}
 use Rattle.wt_regularity.specs.Kinds.{kind_same}
 use Rattle.wt_regularity.specs.Order.{are_apart, after}
 
 -- the kinds of the columns that a predicate is over
 abbrev pub listed_kinds : Listed → List ColKind
-listed_kinds l = kinds_at (plan_kinds l.tables.now (plan_tree l.operand.now)) l.cols.now
+listed_kinds l = kinds_at (plan_kinds l.tables.now (any_tree l.operand)) l.cols.now
 
 abbrev pub is_text : List ℕ → Bool
 is_text bytes = is_utf8 bytes

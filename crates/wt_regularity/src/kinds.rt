@@ -1,10 +1,10 @@
 //! The kinds of a plan's columns, each looked up by itself.
 ghost use Rattle.std.specs.Prelude.{◌≡◌, slice_get};
-ghost use Rattle.wt_plan.specs.Tree.{plan_tree};
 ghost use Rattle.wt_plan.specs.Regular.{column_kinds, plan_kinds};
+ghost use Rattle.wt_draft.specs.Roots.{any_tree};
 ghost use Rattle.wt_regularity.specs.Kinds as spec;
 
-use wt_plan::Plan;
+use wt_draft::{AnyPlan, Root};
 use wt_schema::{ColKind, Column, Table};
 
 /// Whether two kinds are one.
@@ -42,19 +42,17 @@ fn table_kind(tables: &[Table], number: u32, place: usize) -> Result<ColKind, us
 }
 
 /// The kind of the column at a place; where the plan has no such column, how many it has.
-pub fn kind_of(tables: &[Table], plan: &Plan, place: usize) -> Result<ColKind, usize>
-    ensures { spec.Finds (plan_kinds tables.now (plan_tree plan.now)) place result }
+pub fn kind_of(tables: &[Table], plan: AnyPlan, place: usize) -> Result<ColKind, usize>
+    ensures { spec.Finds (plan_kinds tables.now (any_tree plan.entry)) place result }
 {
-    match plan {
-        Plan::Table(number, _) => table_kind(tables, *number, place),
-        Plan::Proj(cols, plan) => match cols.as_slice().get(place) {
-            Some(inner) => Ok(kind_or_int(kind_of(tables, plan, *inner as usize))),
+    match plan.root() {
+        Root::Table(number, _) => table_kind(tables, number, place),
+        Root::Proj(cols, p) => match cols.as_slice().get(place) {
+            Some(inner) => Ok(kind_or_int(kind_of(tables, p, *inner as usize))),
             None => Err(cols.len()),
         },
-        Plan::Filter(_, _, plan) | Plan::InSub(_, plan, _) | Plan::Dedup(plan) => {
-            kind_of(tables, plan, place)
-        }
-        Plan::InnerJoin(_, _, left, right) | Plan::LeftJoin(_, _, left, right) => {
+        Root::Filter(_, _, p) | Root::InSub(_, p, _) | Root::Dedup(p) => kind_of(tables, p, place),
+        Root::InnerJoin(_, _, left, right) | Root::LeftJoin(_, _, left, right) => {
             match kind_of(tables, left, place) {
                 Ok(kind) => Ok(kind),
                 Err(width) => wider(width, kind_of(tables, right, place - width)),

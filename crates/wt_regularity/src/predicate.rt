@@ -1,23 +1,23 @@
 //! Whether a filter's predicate is one of a regular plan.
 ghost use Rattle.std.specs.Prelude.{◌≡◌};
 ghost use Rattle.wt_pred.specs.Tree.{pred_tree, preds_tree};
-ghost use Rattle.wt_plan.specs.Tree.{plan_tree};
 ghost use Rattle.wt_plan.specs.Regular as regular;
+ghost use Rattle.wt_draft.specs.Roots.{any_tree};
 ghost use Rattle.wt_regularity.specs.Predicates as spec;
 
 use crate::kinds::{kind_of, kind_or_int, same_kind};
 use crate::order::{after, are_apart};
 use std::str::from_utf8;
-use wt_plan::Plan;
+use wt_draft::AnyPlan;
 use wt_pred::{Operand, Pred, Preds};
 use wt_schema::{ColKind, Table};
 use wt_value::{Cols, Value};
 
 /// The columns that a filter's predicate is over: those of a list, in the filter's operand.
 #[derive(Clone, Copy)]
-struct Listed<'a> {
+struct Listed<'a, 'd, 'p> {
     tables: &'a [Table],
-    operand: &'a Plan,
+    operand: AnyPlan<'d, 'p>,
     cols: &'a [u32],
 }
 
@@ -136,8 +136,8 @@ fn uses_all(pred: &Pred, cols: &Cols) -> bool
 }
 
 /// Whether a filter over the operand is as regular plans have it.
-pub fn filter_fits(tables: &[Table], pred: &Pred, cols: &Cols, operand: &Plan) -> bool
-    ensures { result ≡ spec.filter_fits (regular.plan_kinds tables.now (plan_tree operand.now)) (pred_tree pred.now) cols.now }
+pub fn filter_fits(tables: &[Table], pred: &Pred, cols: &Cols, operand: AnyPlan) -> bool
+    ensures { result ≡ spec.filter_fits (regular.plan_kinds tables.now (any_tree operand.entry)) (pred_tree pred.now) cols.now }
 {
     let listed = Listed {
         tables,

@@ -1,9 +1,9 @@
 //! How wide a plan is, where each of its nodes may be as wide as it is and names places that are there.
 ghost use Rattle.std.specs.Prelude.{◌≡◌};
-ghost use Rattle.wt_plan.specs.Tree.{plan_tree};
+ghost use Rattle.wt_draft.specs.Roots.{any_tree};
 ghost use Rattle.wt_regularity.specs.Widths as spec;
 
-use wt_plan::Plan;
+use wt_draft::{AnyPlan, Root};
 use wt_schema::Table;
 use wt_value::Cols;
 
@@ -84,24 +84,24 @@ fn narrow(width: u32) -> Option<u32>
 }
 
 /// How many columns the plan's rows have, if each of its nodes may be so wide and names places that are there.
-pub fn fitting_width(tables: &[Table], plan: &Plan) -> Option<u32>
-    ensures { result ≡ spec.fitting_width tables.now (plan_tree plan.now) }
+pub fn fitting_width(tables: &[Table], plan: AnyPlan) -> Option<u32>
+    ensures { result ≡ spec.fitting_width tables.now (any_tree plan.entry) }
 {
-    match plan {
-        Plan::Table(number, width) => table_width(tables, *number, *width),
-        Plan::Proj(cols, plan) => listed_width(fitting_width(tables, plan)?, cols),
-        Plan::Filter(_, cols, plan) => filtered_width(fitting_width(tables, plan)?, cols),
-        Plan::InnerJoin(a, b, left, right) | Plan::LeftJoin(a, b, left, right) => joined_width(
+    match plan.root() {
+        Root::Table(number, width) => table_width(tables, number, width),
+        Root::Proj(cols, p) => listed_width(fitting_width(tables, p)?, cols),
+        Root::Filter(_, cols, p) => filtered_width(fitting_width(tables, p)?, cols),
+        Root::InnerJoin(a, b, left, right) | Root::LeftJoin(a, b, left, right) => joined_width(
             fitting_width(tables, left)?,
             fitting_width(tables, right)?,
             a,
             b,
         ),
-        Plan::InSub(cols, left, right) => matched_width(
+        Root::InSub(cols, left, right) => matched_width(
             fitting_width(tables, left)?,
             fitting_width(tables, right)?,
             cols,
         ),
-        Plan::Dedup(plan) => narrow(fitting_width(tables, plan)?),
+        Root::Dedup(p) => narrow(fitting_width(tables, p)?),
     }
 }

@@ -1,4 +1,4 @@
--- One step along a chain.
+-- One step along a chain. Private contracts alone cite this file.
 use Rattle.std.specs.Prelude.{◌≡◌, List, [], ◌∷◌, ◌++◌}
 use Rattle.wt_schema.specs.declared.schema.Table.{Table}
 use Rattle.wt_symbol.specs.Sides.{pair_of}

@@ -1,4 +1,4 @@
--- The operands of a plan's root, and where they stand in it.
+-- The operands of a plan's root, and where they stand in it. Private contracts alone cite this file.
 use Rattle.std.specs.Prelude.{◌≡◌, ◌+◌}
 use Rattle.wt_plan.specs.Tree.{PlanTree, plan_tree}
 use Rattle.wt_plan.specs.Measures.{node_count}

@@ -1,4 +1,4 @@
--- The search for the first match: at one node, and at the nodes of a subplan, which are numbered one after the other.
+-- The search for the first match: at one node, and at the nodes of a subplan, which are numbered one after the other. Private contracts alone cite this file.
 use Rattle.std.specs.Prelude.{◌≡◌, ℕ, ◌+◌, ◌<◌, ◌≤◌, List, slice_get, Some}
 use Rattle.wt_schema.specs.declared.schema.Table.{Table}
 use Rattle.wt_symbol.specs.Sides.{tree_of, pair_of}

@@ -91,7 +91,7 @@ fn answer(
         Question::IsUnique => is_unique(alloc, schema, plan, at),
         Question::IsNotNull => is_not_null(alloc, schema, plan, at),
         Question::Refers => refers(alloc, schema, plan, at),
-        Question::IsRegular => Ok(Known::new(schema).regular(plan)),
+        Question::IsRegular => Ok(Known::new(schema).regular(&Draft::Whole(plan))),
     }
 }
 

@@ -96,7 +96,8 @@ fn plan(alloc: Global, n: usize) -> Result<Plan, AllocError> {
 }
 
 fn is_regular(alloc: Global, schema: &Schema, n: usize) -> Result<bool, AllocError> {
-    Ok(Known::new(schema).regular(&plan(alloc, n)?))
+    let plan = plan(alloc, n)?;
+    Ok(Known::new(schema).regular(&Draft::Whole(&plan)))
 }
 
 #[test]

@@ -4,6 +4,7 @@ use crate::tests::{SCHEMA, cols};
 use std::alloc::{AllocError, Global};
 use std::test::Fail;
 use wt_ddl::read_schema;
+use wt_draft::Draft;
 use wt_plan::Plan;
 use wt_plan_facts::Facts;
 use wt_pred::{Cmp, Operand, Pred, Preds};

@@ -1,4 +1,4 @@
-use Rattle.std.proofs.Common.{◌≡◌, List, sym, ap, ◌∙◌, subst}
+use Rattle.std.proofs.Common.{◌≡◌, sym, ap, ◌∙◌, subst}
 use Rattle.wt_bag.specs.Bags.{Each}
 use Rattle.wt_symbol.specs.Sides.{pair_of}
 use Rattle.wt_plan.specs.Tree.{plan_tree}

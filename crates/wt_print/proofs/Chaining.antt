@@ -1,8 +1,8 @@
 -- The links of a FROM clause, one more or one less at the end of their list.
-use Rattle.std.proofs.Common.{Bor, ◌≡◌, ℕ, ◌≤◌, List, [], ◌∷◌, ◌++◌, ap, sym, ◌∙◌, append_assoc, append-nil}
-use Rattle.wt_ast.specs.declared.tree.FromPart.{FromPart, size-FromPart}
+use Rattle.std.proofs.Common.{Bor, ◌≡◌, List, [], ◌∷◌, ◌++◌, ap, sym, ◌∙◌, append_assoc, append-nil}
+use Rattle.wt_ast.specs.declared.tree.FromPart.{FromPart}
 use Rattle.wt_ast.specs.Tree.{from_tree}
-use Rattle.wt_print.specs.Links.{link_text, links_text, LinkFits, LinksFit, AreWithin}
+use Rattle.wt_print.specs.Links.{link_text, links_text, LinkFits, LinksFit}
 
 pub links_last : (ps : List (Bor FromPart)) (p : Bor FromPart) → links_text (ps ++ p ∷ []) ≡ link_text (from_tree p.now) ++ links_text ps
 links_last [] p = sym (append-nil (link_text (from_tree p.now)))
@@ -15,11 +15,3 @@ fit_last (x ∷ ps) p h = let (one, others) = fit_last ps p h.1 in (one, (h.0, o
 pub fit_more : (ps : List (Bor FromPart)) (p : Bor FromPart) → LinksFit ps → LinkFits (from_tree p.now) → LinksFit (ps ++ p ∷ [])
 fit_more [] p h f = (f, tt)
 fit_more (x ∷ ps) p h f = (h.0, fit_more ps p h.1 f)
-
-pub within_more : (n : ℕ) (ps : List (Bor FromPart)) (p : Bor FromPart) → AreWithin n ps → size-FromPart p.now ≤ n → AreWithin n (ps ++ p ∷ [])
-within_more n [] p h f = (f, tt)
-within_more n (x ∷ ps) p h f = (h.0, within_more n ps p h.1 f)
-
-pub within_last : (n : ℕ) (ps : List (Bor FromPart)) (p : Bor FromPart) → AreWithin n (ps ++ p ∷ []) → (size-FromPart p.now ≤ n) × AreWithin n ps
-within_last n [] p h = (h.0, tt)
-within_last n (x ∷ ps) p h = let (one, others) = within_last n ps p h.1 in (one, (h.0, others))

@@ -1,6 +1,6 @@
 -- Of contracts of private functions alone: a FROM clause as its first part and what stands behind it, from the last join back.
 use Rattle.std.proofs.Common.{Bor}
-use Rattle.std.specs.Prelude.{ℕ, ◌≤◌, List, [], ◌∷◌, ◌++◌, codes}
+use Rattle.std.specs.Prelude.{ℕ, ◌≤◌, List, [], ◌∷◌, ◌++◌, All, codes}
 use Rattle.wt_ast.specs.Tree.{FromTree, inner_join, left_join, right_join, comma}
 use Rattle.wt_ast.specs.declared.tree.FromPart.{FromPart, size-FromPart}
 use Rattle.wt_ast.specs.Tree.{from_tree, CondTree}
@@ -38,5 +38,4 @@ LinksFit (p ∷ ps) = LinkFits (from_tree p.now) × LinksFit ps
 
 -- the parts are no deeper than what they are parts of
 abbrev pub AreWithin : ℕ → List (Bor FromPart) → Type 0
-AreWithin most [] = Unit {0}
-AreWithin most (p ∷ ps) = (size-FromPart p.now ≤ most) × AreWithin most ps
+AreWithin most parts = All (λ p. size-FromPart p.now ≤ most) parts

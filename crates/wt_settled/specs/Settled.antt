@@ -1,4 +1,4 @@
--- When placing a plan changes nothing, as one walk from the top sees it.
+-- Of contracts of private functions alone: when placing a plan changes nothing, as one walk from the top sees it.
 use Rattle.std.specs.Prelude.{Bool, true, false, ◌&&◌, not}
 use Rattle.wt_plan.specs.Tree.{PlanTree, table, proj, filtered, inner_join, left_join, in_sub, dedup}
 use Rattle.wt_settled.specs.declared.settled.Above.{Above}

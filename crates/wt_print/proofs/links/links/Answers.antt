@@ -1,9 +1,10 @@
-use Rattle.std.proofs.Common.{◌++◌, ◌∙◌, ap, sym, subst, arith, append_assoc}
+use Rattle.std.proofs.Common.{◌≤◌, ◌++◌, ◌∙◌, ap, sym, subst, arith, append_assoc}
+use Rattle.std.proofs.lemmas.List.Elements.{All-push}
 use Rattle.wt_ast.specs.declared.tree.FromPart.{size-FromPart}
 use Rattle.wt_ast.specs.Tree.{from_tree}
 use Rattle.wt_print.specs.Links.{link_text, links_text, LinksFit, AreWithin}
 use Rattle.wt_spelling.specs.Spelling as spec
-use Rattle.wt_print.proofs.Chaining.{links_last, fit_last, within_more}
+use Rattle.wt_print.proofs.Chaining.{links_last, fit_last}
 use Rattle.wt_print.proofs.links.links.Goals as goal
 
 pub left-preserved : goal.left-preserved
@@ -12,7 +13,7 @@ left-preserved c =
     record {
       smaller = omega (arith, c.in-Some.ensures.smaller, c.left.invariant.smaller);
       within = subst (AreWithin (size-FromPart c.args.from.now)) (sym pushed)
-          (within_more (size-FromPart c.args.from.now) c.left.parts.items c.left.part c.left.invariant.within c.left.invariant.smaller);
+          (All-push (λ p. size-FromPart p.now ≤ size-FromPart c.args.from.now) c.left.parts.items c.left.part c.left.invariant.within c.left.invariant.smaller);
       text =
           ap (λ ps. spec.from_text (from_tree c.in-Some.left.now) ++ links_text ps) pushed
           ∙ ap (λ l. spec.from_text (from_tree c.in-Some.left.now) ++ l) (links_last c.left.parts.items c.left.part)
@@ -27,7 +28,7 @@ left-preserved c =
 pub returns-in-None-clause-within : goal.returns-in-None-clause-within
 returns-in-None-clause-within c =
     subst (AreWithin (size-FromPart c.args.from.now)) (sym c.in_ok-push.ensures.items)
-    (within_more (size-FromPart c.args.from.now) c.left.parts.items c.left.part c.left.invariant.within c.left.invariant.smaller)
+    (All-push (λ p. size-FromPart p.now ≤ size-FromPart c.args.from.now) c.left.parts.items c.left.part c.left.invariant.within c.left.invariant.smaller)
 
 pub returns-in-None-clause-text : goal.returns-in-None-clause-text
 returns-in-None-clause-text c =

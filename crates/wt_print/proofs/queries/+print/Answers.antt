@@ -1,9 +1,10 @@
-use Rattle.std.proofs.Common.{◌++◌, ◌∙◌, ◌≤◌, ap, sym, subst, rules, arith, append_assoc, codes}
+use Rattle.std.proofs.Common.{Some, ◌++◌, ◌∙◌, ◌≤◌, ap, sym, rules, arith, append_assoc, codes, subst}
+use Rattle.std.proofs.lemmas.List.Elements.{All-pop}
 use Rattle.wt_ast.specs.declared.tree.FromPart.{size-FromPart}
 use Rattle.wt_ast.specs.Tree.{condition_tree, from_tree, kind_tree}
-use Rattle.wt_print.specs.Links.{join_text, link_text, links_text, LinksFit, AreWithin}
+use Rattle.wt_print.specs.Links.{join_text, link_text, links_text, LinksFit}
 use Rattle.wt_spelling.specs.Spelling as spec
-use Rattle.wt_print.proofs.Chaining.{links_last, fit_more, within_last}
+use Rattle.wt_print.proofs.Chaining.{links_last, fit_more}
 use Rattle.wt_print.proofs.Telling.{told, told_if}
 use Rattle.wt_print.proofs.queries.+print.Goals as goal
 
@@ -21,15 +22,15 @@ add_condition-returns-in_ok-add_column-in-IsNotNull-clause-text t c =
 pub add_from-add_link-requires-in-Some : goal.add_from-add_link-requires-in-Some
 add_from-add_link-requires-in-Some t c =
     let small : size-FromPart c.in-Some.part.now ≤ size-FromPart c.args.from.now =
-    (within_last (size-FromPart c.args.from.now) c.pop.new.self.items c.in-Some.part
-    (subst (AreWithin (size-FromPart c.args.from.now)) c.in-Some.ensures.items c.parts.invariant.within)).0 in
+    (All-pop (λ p. size-FromPart p.now ≤ size-FromPart c.args.from.now) c.parts.parts.items c.pop.new.self.items (Some c.in-Some.part)
+    c.in-Some.ensures.items c.parts.invariant.within).1 in
     search (rules, arith, small)
 
 pub add_from-parts-preserved : goal.add_from-parts-preserved
 add_from-parts-preserved t c =
     record {
-      within = (within_last (size-FromPart c.args.from.now) c.pop.new.self.items c.in-Some.part
-          (subst (AreWithin (size-FromPart c.args.from.now)) c.in-Some.ensures.items c.parts.invariant.within)).1;
+      within = (All-pop (λ p. size-FromPart p.now ≤ size-FromPart c.args.from.now) c.parts.parts.items c.pop.new.self.items (Some c.in-Some.part)
+          c.in-Some.ensures.items c.parts.invariant.within).0;
       text =
           ap (λ l. l ++ links_text c.pop.new.self.items) c.in_ok-add_link.ensures.text
           ∙ append_assoc c.parts.out.items (link_text (from_tree c.in-Some.part.now)) (links_text c.pop.new.self.items)

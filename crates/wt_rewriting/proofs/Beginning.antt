@@ -1,5 +1,5 @@
 -- The three files have one whole answer, and what a run has written that ends early begins it.
-use Rattle.std.proofs.Common.{◌≡◌, ◌≢◌, ◌∙◌, ℕ, zero, suc, ◌⊎◌, List, [], ◌∷◌, ◌++◌, length, take, map, refl, ap, sym, subst, inl, inr, append_assoc, append-nil, arith}
+use Rattle.std.proofs.Common.{◌≡◌, ◌≢◌, ◌∙◌, ℕ, zero, suc, List, [], ◌∷◌, ◌++◌, length, take, refl, ap, sym, subst, inl, inr, append_assoc, append-nil, arith}
 use Rattle.std.specs.Prelude.{Ok, Err, Some, None, Result, slice_get}
 use Rattle.std.specs.declared.option.Option.{Option}
 use Rattle.std.proofs.lemmas.List.{length-map, take_all}
@@ -10,8 +10,6 @@ use Rattle.wt_chains.specs.Chains.{AreLawful}
 use Rattle.wt_ddl.specs.Schemas.{schema_of}
 use Rattle.wt_ddl.specs.Refusals as ddl
 use Rattle.wt_ddl.proofs.Schemed.{schema_law}
-use Rattle.wt_fault_names.specs.FaultNames.{lexical_name, schema_name}
-use Rattle.wt_grammar.specs.Reading.{Refusal}
 use Rattle.wt_grammar.specs.Statements.{Answer, File, Statement, answer, file_of}
 use Rattle.wt_lex.specs.declared.token.LexFault.{LexFault}
 use Rattle.wt_lines.specs.Laws.{IsAccepted}
@@ -27,7 +25,7 @@ use Rattle.wt_outcome.proofs.Putting.{append_known-nil, prefix_more}
 use Rattle.wt_query_plan.specs.Faults.{Fault, query_fault}
 use Rattle.wt_rewriting.specs.Checking.{IsCheckOutcome, IsChecking, IsReadOutcome, all_read}
 use Rattle.wt_rewriting.specs.Files.{Names}
-use Rattle.wt_rewriting.specs.Rewriting.{AreAll, AreFirst, Gives, IsBookOutcome, IsFileOutcome, IsQueriesOutcome, IsRewriting, IsRulesOutcome, IsSchemaOutcome, IsTablesOutcome, IsWhole, fault_in_line, lines_outcome, nothing}
+use Rattle.wt_rewriting.specs.Rewriting.{AreAll, AreFirst, Gives, IsBookOutcome, IsFileOutcome, IsQueriesOutcome, IsRewriting, IsRulesOutcome, IsSchemaOutcome, IsTablesOutcome, IsWhole, fault_in_line}
 use Rattle.wt_rewriting.proofs.SameRules.{AreAlike, same_rewritten}
 use Rattle.wt_rule.specs.declared.Rule.{Rule}
 use Rattle.wt_rule.specs.declared.RuleBook.{RuleBook}

@@ -8,8 +8,7 @@ use Rattle.wt_ddl.specs.declared.fault.DdlFault.{DdlFault}
 use Rattle.wt_fault_names.specs.FaultNames.{lexical_name, schema_name}
 use Rattle.wt_grammar.specs.Statements.{File, file_of}
 use Rattle.wt_lex.specs.declared.token.LexFault.{LexFault}
-use Rattle.wt_lines.specs.declared.line.Line.{Line}
-use Rattle.wt_lines.specs.Lines.{AreLines, any_refused, lines_text}
+use Rattle.wt_lines.specs.Lines.{lines_text}
 use Rattle.wt_outcome.specs.declared.input.Input.{Input}
 use Rattle.wt_outcome.specs.declared.input.Input.TheVariants.{Whole, TooLong}
 use Rattle.wt_outcome.specs.declared.stop.Stop.{Stop}

@@ -11,7 +11,6 @@ use Rattle.wt_plan.specs.Tree.{PlanTree}
 use Rattle.wt_rule.specs.declared.Rule.{Rule}
 use Rattle.wt_rule_file.specs.Files.{RuleTree, rule_tree}
 use Rattle.wt_schema.specs.declared.schema.Table.{Table}
-use Rattle.wt_symbol.specs.Sides.{pair_of}
 
 -- the pairs and sets of two lists are the same
 abbrev pub AreAlike : List Rule → List Rule → Type 0

@@ -14,7 +14,7 @@ use Rattle.wt_outcome.specs.Outcomes.{AppendsPrefix, Ends, Outcome, Writes}
 use Rattle.wt_outcome.specs.Inputs.{IsInput}
 use Rattle.wt_rewriting.specs.Checking.{IsCheckOutcome, IsChecking, IsReadOutcome}
 use Rattle.wt_rewriting.specs.Files.{Names, WithInputs}
-use Rattle.wt_rewriting.specs.Rewriting.{IsBookOutcome, IsFileOutcome, IsQueriesOutcome, IsRewriting, IsRulesOutcome, IsSchemaOutcome, IsTablesOutcome, IsWhole, nothing, status_of}
+use Rattle.wt_rewriting.specs.Rewriting.{IsBookOutcome, IsFileOutcome, IsQueriesOutcome, IsRewriting, IsRulesOutcome, IsSchemaOutcome, IsTablesOutcome, IsWhole, status_of}
 use Rattle.wt_rewriting.proofs.Beginning.{prefix_of_checked, prefix_of_whole}
 use Rattle.wt_rule.specs.declared.Rule.{Rule}
 use Rattle.wt_rule.specs.declared.RuleBook.{RuleBook}

@@ -1,3 +1,4 @@
 pub mod Files
 pub mod Rewriting
 pub mod Checking
+pub mod Waiting

@@ -5,6 +5,7 @@ mod checking;
 mod names;
 mod putting;
 mod rewriting;
+mod waiting;
 
 pub use checking::check;
 pub use names::Names;

@@ -5,6 +5,7 @@ ghost use Rattle.wt_outcome.specs.Outcomes.{Runs};
 ghost use Rattle.wt_rewrite.specs.Books.{IsReady};
 ghost use Rattle.wt_rewriting.specs.Rewriting as spec;
 
+use crate::waiting::add_line;
 use std::alloc::{AllocError, Global};
 use wt_io::Sink;
 use wt_lines::statement_line;
@@ -66,7 +67,7 @@ pub fn put_line_fault<K: Sink>(
     Ok(2)
 }
 
-// A line for each statement, one write each. It answers whether one of them was refused.
+// A line for each statement; a write takes some 64 KiB of them. It answers whether one of them was refused.
 pub(crate) fn put_lines<F: Facts, K: Sink>(
     alloc: Global,
     schema: &Schema,
@@ -81,10 +82,12 @@ pub(crate) fn put_lines<F: Facts, K: Sink>(
     ensures { spec.PutsLines schema.now.tables book.now.rules queries.now (Rose (K.faults sink.old) (K.faults sink.new)) (K.written sink.old) (K.written sink.new) result }
 {
     let mut refused = false;
+    let mut waiting = Vec::new(alloc);
     'statements: for n in 0..queries.count() {
         let line = statement_line(alloc, schema, facts, book, queries, n)?;
-        put(sink, line.text.as_slice())?;
+        add_line(&mut waiting, line.text.as_slice(), sink)?;
         refused |= line.refused;
     }
+    put(sink, waiting.as_slice())?;
     Ok(refused)
 }

@@ -107,7 +107,7 @@ fn answers<R: Threads + Wait + Sync + Abort + AllocGlobal>(
     rt: &R,
     case: &Case<'_>,
 ) -> Result<bool, Fail> {
-    let mut sink = MemSink::new(rt.alloc(), 4096, calls(rt.alloc(), case.failing_write)?)?;
+    let mut sink = MemSink::new(rt.alloc(), 131_072, calls(rt.alloc(), case.failing_write)?)?;
     let status = run(rt, case, &mut sink)?;
     Ok(status == case.status && sink.as_bytes() == case.written)
 }
@@ -409,13 +409,50 @@ fn stops_at_faults(rt: HostRuntime) -> Result<(), Fail> {
         ("rewrite A S Q", 4, 0, 3, b"".as_slice()),
         ("rewrite A S missing", 0, 0, 3, b""),
         ("rewrite A S Q", 0, 1, 5, b""),
-        ("rewrite A S Q", 0, 2, 5, LINE),
     ] {
         assert!(rt;
             says(&rt, words, failing_read, failing_write, status, written)?,
             "{words}"
         );
     }
+    Ok(())
+}
+
+/// A text so many times.
+fn repeated(alloc: Global, text: &[u8], times: u32) -> Result<Vec<u8>, Fail> {
+    let mut all = Vec::new(alloc);
+    for _ in 0..times {
+        all.extend_from_slice(text)?;
+    }
+    Ok(all)
+}
+
+/// Whether this many statements, of which the second write fails, leave so many lines with status 5.
+fn leaves_lines<R: Threads + Wait + Sync + Abort + AllocGlobal>(
+    rt: &R,
+    statements: u32,
+    lines: u32,
+) -> Result<bool, Fail> {
+    let queries = repeated(rt.alloc(), b"SELECT t.a, t.b FROM t;", statements)?;
+    let written = repeated(rt.alloc(), LINE, lines)?;
+    answers(
+        rt,
+        &Case {
+            words: "rewrite A S Q",
+            schema: SCHEMA,
+            queries: &queries,
+            failing_read: 0,
+            failing_write: 2,
+            status: 5,
+            written: &written,
+        },
+    )
+}
+
+#[test]
+fn whole_lines_are_put_at_once(rt: HostRuntime) -> Result<(), Fail> {
+    // Of 41 bytes each: the first write takes as many as are 65,536 bytes or more.
+    assert!(rt; leaves_lines(&rt, 3200, 1599)?);
     Ok(())
 }
 

@@ -1,6 +1,4 @@
-use Rattle.std.proofs.Common.{inl}
 use Rattle.wt_rewriting.proofs.Beginning.{stopped_checked}
-use Rattle.wt_rewriting.proofs.Statuses.{checked_bytes, checked_known, checked_prefix, checking_fine, ended}
 use Rattle.wt_rewriting.proofs.checking.check.Goals as goal
 
 pub returns-in-Err-clause-begins : goal.returns-in-Err-clause-begins

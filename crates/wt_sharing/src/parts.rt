@@ -1,43 +1,61 @@
-//! Parts of a lot.
-ghost use Rattle.std.specs.Prelude.{◌≡◌, ◌+◌, ◌<◌, ◌≤◌, All, drop, length, map, take, IfOk};
+//! The lawful pairs of bounds, in parts that are shared out one after another.
+ghost use Rattle.std.specs.Prelude.{◌≡◌, ◌++◌, ◌<◌, ◌≤◌, All, length, map, IfOk};
+ghost use Rattle.wt_pair.specs.Candidates.{IsWithinLimits, pairs_of};
 ghost use Rattle.wt_symbol.specs.Lawful.{IsLawful};
 ghost use Rattle.wt_symbol.specs.Sides.{pair_of};
+ghost use Rattle.wt_sharing.specs.Parts.{Left, Gives};
 
 use std::alloc::{AllocError, Global};
-use wt_pair::{Lot, PairList};
+use std::marker::Model;
+use std::mem::replace;
+use wt_pair::{Bounds, Lot, PairList, Pairs};
 use wt_symbol::Pair;
 
-/// How many pairs are shared out at once. Their lines are written when all of them are settled.
+/// How many pairs are shared out at once, if there are so many.
 const PART: usize = 512;
 
-// Copies of pairs.
-fn copied(alloc: Global, pairs: &[Pair]) -> Result<PairList, AllocError>
-    ensures pairs { IfOk result (λ copies. map pair_of copies ≡ map pair_of pairs.now) }
-    ensures many { IfOk result (λ copies. length copies ≡ length pairs.now) }
-{
-    let mut copies = PairList::new(alloc);
-    for pair in pairs {
-        copies.push(pair.copy(alloc)?)?;
-    }
-    Ok(copies)
+/// The pairs of bounds that are left: the rest of the lot at hand with the number of its first pair, and the lots behind it.
+#[derive(Drop)]
+pub(crate) struct Parts {
+    bounds: Bounds,
+    first: u64,
+    rest: Vec<Pair>,
+    lots: Pairs,
 }
 
-// The pairs of a lot from a number on, 512 or the rest, as a lot.
-pub(crate) fn part_of(alloc: Global, lot: &Lot, first: usize) -> Result<Lot, AllocError>
-    requires within { first < length lot.now.pairs }
-    requires lawful { All (λ p. IsLawful (pair_of p)) lot.now.pairs }
-    ensures bounds { IfOk result (λ part. part.bounds ≡ lot.now.bounds) }
-    ensures pairs { IfOk result (λ part. map pair_of part.pairs ≡ take 512 (drop first (map pair_of lot.now.pairs))) }
-    ensures lawful { IfOk result (λ part. All (λ p. IsLawful (pair_of p)) part.pairs) }
-    ensures some { IfOk result (λ part. 0 < length part.pairs) }
-    ensures few { IfOk result (λ part. length part.pairs ≤ 512) }
-    ensures fits { IfOk result (λ part. first + length part.pairs ≤ length lot.now.pairs) }
-{
-    let end = lot.pairs.len().min(first.saturating_add(PART));
-    let pairs = copied(alloc, &lot.pairs.as_slice()[first..end])?;
-    Ok(Lot {
-        bounds: lot.bounds,
-        first: lot.first.saturating_add(first as u64),
-        pairs,
-    })
+/// Takes the first pairs off, as many as a part has, or all.
+fn take_part(pairs: &mut Vec<Pair>) -> Result<Vec<Pair>, AllocError> {
+    let behind = pairs.split_off(pairs.len().min(PART))?;
+    Ok(replace(pairs, behind))
+}
+
+impl Parts {
+    /// All pairs of the bounds.
+    pub(crate) fn new(alloc: Global, bounds: Bounds) -> Parts {
+        Parts {
+            bounds,
+            first: 0,
+            rest: Vec::new(alloc),
+            lots: Pairs::new(bounds),
+        }
+    }
+
+    /// The next part, or None at the end.
+    pub(crate) fn next_part(&mut self, alloc: Global) -> Result<Option<Lot>, AllocError> {
+        if self.rest.is_empty() {
+            let Some(lot) = self.lots.next_lot(alloc)? else {
+                return Ok(None);
+            };
+            self.first = lot.first;
+            self.rest = lot.pairs.into_vec();
+        }
+        let pairs = take_part(&mut self.rest)?;
+        let first = self.first;
+        self.first = first.saturating_add(pairs.len() as u64);
+        Ok(Some(Lot {
+            bounds: self.bounds,
+            first,
+            pairs: PairList::from_vec(pairs),
+        }))
+    }
 }

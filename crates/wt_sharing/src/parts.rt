@@ -1,10 +1,10 @@
 //! The lawful pairs of bounds, in parts that are shared out one after another.
-ghost use Rattle.std.specs.Prelude.{◌≡◌, ◌<◌, ◌≤◌, ◌++◌, IfOk, OnErr, vec_len};
+ghost use Rattle.std.specs.Prelude.{◌≡◌, ◌<◌, ◌≤◌, ◌++◌, [], All, IfOk, OnErr, OnOk, vec_len};
 ghost use Rattle.wt_pair.specs.Candidates.{IsWithinLimits, pairs_of};
-ghost use Rattle.wt_sharing.specs.Parts.{Gives};
+ghost use Rattle.wt_symbol.specs.Lawful.{IsLawful};
+ghost use Rattle.wt_symbol.specs.Sides.{pair_of};
 
 use std::alloc::{AllocError, Global};
-use std::marker::Model;
 use std::mem::replace;
 use wt_pair::{Bounds, Lot, PairList, Pairs};
 use wt_symbol::Pair;
@@ -19,6 +19,8 @@ pub(crate) struct Parts {
     first: u64,
     rest: Vec<Pair>,
     lots: Pairs,
+    ghost same: { lots.bounds ≡ bounds },
+    ghost lawful: { All (λ pair. IsLawful (pair_of pair)) rest.items },
 }
 
 /// Takes the first pairs off, as many as a part has, or all.
@@ -33,26 +35,14 @@ fn take_part(pairs: &mut Vec<Pair>) -> Result<Vec<Pair>, AllocError>
     Ok(replace(pairs, behind))
 }
 
-impl Model for Parts {
-    ghost use Rattle.std.specs.Prelude.{◌≡◌, ◌++◌, All, drop, map};
-    ghost use Rattle.wt_pair.specs.Candidates.{pairs_of};
-    ghost use Rattle.wt_symbol.specs.Lawful.{IsLawful};
-    ghost use Rattle.wt_symbol.specs.Sides.{pair_of};
-    ghost use Rattle.wt_sharing.specs.Parts.{Left};
-
-    ghost Value = { Left };
-
-    ghost view = { λ p. record { bounds = p.bounds; pairs = map pair_of p.rest.items ++ drop p.lots.first (pairs_of p.bounds) } };
-
-    ghost invariant = { λ p. (p.lots.bounds ≡ p.bounds) × All (λ pair. IsLawful (pair_of pair)) p.rest.items };
-}
-
 impl Parts {
+    ghost use Rattle.wt_sharing.specs.Parts.{Gives, left};
+
     /// All pairs of the bounds.
     pub(crate) fn new(alloc: Global, bounds: Bounds) -> Parts
         requires { IsWithinLimits bounds }
         ensures bounds { result.bounds ≡ bounds }
-        ensures pairs { result.pairs ≡ pairs_of bounds }
+        ensures pairs { left result ≡ pairs_of bounds }
     {
         Parts {
             bounds,
@@ -62,18 +52,30 @@ impl Parts {
         }
     }
 
-    /// The next part, or None at the end; after want of memory all is as before.
+    /// Takes the next lot, if there is one, where no pair of the last is left; after want of memory all is as before.
+    fn refill(&mut self, alloc: Global) -> Result<(), AllocError>
+        ensures bounds { self.new.bounds ≡ self.old.bounds }
+        ensures left { left self.new ≡ left self.old }
+        ensures end { OnOk result (vec_len self.new.rest ≡ 0 → left self.new ≡ []) }
+    {
+        if self.rest.is_empty() {
+            if let Some(lot) = self.lots.next_lot(alloc)? {
+                self.first = lot.first;
+                self.rest = lot.pairs.into_vec();
+            }
+        }
+        Ok(())
+    }
+
+    /// The next part, or None at the end; after want of memory no pair is lost.
     pub(crate) fn next_part(&mut self, alloc: Global) -> Result<Option<Lot>, AllocError>
         ensures part { IfOk result (Gives self.old self.new) }
         ensures bounds { self.new.bounds ≡ self.old.bounds }
-        ensures err { OnErr result (self.new ≡ self.old) }
+        ensures err { OnErr result (left self.new ≡ left self.old) }
     {
+        self.refill(alloc)?;
         if self.rest.is_empty() {
-            let Some(lot) = self.lots.next_lot(alloc)? else {
-                return Ok(None);
-            };
-            self.first = lot.first;
-            self.rest = lot.pairs.into_vec();
+            return Ok(None);
         }
         let pairs = take_part(&mut self.rest)?;
         let first = self.first;

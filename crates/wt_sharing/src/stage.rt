@@ -70,7 +70,12 @@ pub(crate) fn run_stage<R: Threads + Wait + Sync, P: Prover + Sync, G: Gate + Sy
     let (made, report) = join_mut(
         rt,
         &mut || make(alloc, before, parts),
-        &mut || discover_lot(rt, alloc, part, prover, workers, gate),
+        &mut ||
+            requires part { All (λ p. IsLawful (pair_of p)) part.now.pairs }
+            requires few { length part.now.pairs < 2 ^ 32 }
+            requires some { 0 < workers }
+            requires most { workers ≤ 64 }
+        { discover_lot(rt, alloc, part, prover, workers, gate) },
     );
     let made = made?;
     let report = report?;

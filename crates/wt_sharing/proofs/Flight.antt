@@ -1,5 +1,5 @@
 -- What is in flight between two stages: rules whose lines are not put yet, the next part, and the pairs that are left.
-use Rattle.std.proofs.Common.{◌≡◌, ◌∙◌, ℕ, ◌+◌, ◌-◌, ◌<◌, ◌≤◌, ◌^◌, min, List, [], ◌++◌, length, length-append, take, drop, map, refl, ap, sym, subst, arith, append-nil, take-add, drop-drop}
+use Rattle.std.proofs.Common.{◌≡◌, ◌∙◌, ℕ, ◌+◌, ◌-◌, ◌<◌, ◌≤◌, ◌^◌, min, List, [], ◌++◌, length, length-append, take, drop, map, ap, sym, subst, arith, append-nil, take-add, drop-drop}
 use Rattle.std.specs.Prelude.{All, Some, None, Ok, Err, ⊤}
 use Rattle.std.specs.Io.KnownBytes.{append_known}
 use Rattle.std.specs.declared.option.Option.{Option}

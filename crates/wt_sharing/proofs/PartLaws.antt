@@ -1,5 +1,5 @@
 -- The parts of the pairs of bounds, one after another.
-use Rattle.std.proofs.Common.{◌≡◌, ◌∙◌, ℕ, ◌+◌, ◌-◌, min, List, [], ◌++◌, length, take, drop, map, ap, ap₂, sym, subst, arith, append_assoc, length-take, length-drop, drop-drop}
+use Rattle.std.proofs.Common.{◌≡◌, ◌∙◌, min, List, [], ◌++◌, length, take, drop, map, ap, ap₂, sym, subst, append_assoc, length-take, drop-drop}
 use Rattle.std.specs.Prelude.{All}
 use Rattle.std.proofs.Math.Seq.{drop-append_seam, take-append_seam}
 use Rattle.std.proofs.lemmas.List.Elements.{All-drop, All-take}

@@ -4,7 +4,6 @@ use Rattle.wt_pair.specs.Candidates.{pairs_of}
 use Rattle.wt_symbol.specs.Lawful.{IsLawful}
 use Rattle.wt_symbol.specs.Sides.{pair_of}
 use Rattle.wt_symbol.specs.declared.side.Pair.{Pair}
-use Rattle.wt_sharing.specs.Parts.{left}
 use Rattle.wt_sharing.proofs.PartLaws.{of_part, of_rest, with_part}
 use Rattle.wt_sharing.proofs.parts.Parts.next_part.Goals as goal
 

@@ -1,46 +1,42 @@
--- The parts of a lot, one after another.
-use Rattle.std.proofs.Common.{◌≡◌, ◌∙◌, ℕ, zero, suc, ◌+◌, ◌-◌, min, List, [], ◌∷◌, ◌++◌, length, take, drop, map, ap, sym, subst, arith, length-take, length-drop}
-use Rattle.std.specs.Prelude.{All, Result}
-use Rattle.std.specs.declared.option.Option.{Option}
-use Rattle.std.proofs.Math.Seq.{take-add}
-use Rattle.std.proofs.lemmas.List.{drop-map, length-map, take-map, take_min}
-use Rattle.std.proofs.lemmas.List.Elements.{All-drop, All-map, All-take}
-use Rattle.wt_discovery.specs.Discovering.{PutsRulesOf}
-use Rattle.wt_outcome.specs.declared.stop.Stop.{Stop}
+-- The parts of the pairs of bounds, one after another.
+use Rattle.std.proofs.Common.{◌≡◌, ◌∙◌, min, List, [], ◌++◌, length, take, drop, map, ap, ap₂, sym, subst, append_assoc, length-take, drop-drop}
+use Rattle.std.specs.Prelude.{All}
+use Rattle.std.proofs.Math.Seq.{drop-append_seam, take-append_seam}
+use Rattle.std.proofs.lemmas.List.Elements.{All-drop, All-take}
+use Rattle.std.proofs.lemmas.List.{length-map, map-append, take_min, take-append-drop}
+use Rattle.wt_pair.specs.Candidates.{pairs_of}
+use Rattle.wt_pair.specs.Lots.{IsNextLot}
+use Rattle.wt_pair.specs.Walk.{Progress}
 use Rattle.wt_pair.specs.declared.bounds.Bounds.{Bounds}
-use Rattle.wt_symbol.specs.Lawful.{IsLawful}
+use Rattle.wt_pair.specs.declared.lot.Lot.{Lot}
 use Rattle.wt_symbol.specs.Sides.{PairTree, pair_of}
 use Rattle.wt_symbol.specs.declared.side.Pair.{Pair}
 
--- the pairs of a part are those of the lot
-pub part_is : (pairs part : List Pair) (first n : ℕ) → n ≡ min (length pairs - first) 512 → map pair_of part ≡ map pair_of (take n (drop first pairs)) → map pair_of part ≡ take 512 (drop first (map pair_of pairs))
-part_is pairs part first n few copied =
-    let long : min 512 (length (drop first pairs)) ≡ n = ap (min 512) (length-drop first pairs) ∙ omega (arith, few) in
-    copied ∙ ap (map pair_of) (ap (λ k. take k (drop first pairs)) (sym long) ∙ take_min 512 (drop first pairs))
-    ∙ (sym (take-map pair_of 512 (drop first pairs)) ∙ ap (take 512) (sym (drop-map pair_of first pairs)))
+-- a lot and the pairs behind it are the pairs that were left before it
+pub with_lot : (b : Bounds) (old new : Progress) (lot : Lot) → old.bounds ≡ b → IsNextLot old new lot → map pair_of lot.pairs ++ drop new.first (pairs_of b) ≡ drop old.first (pairs_of b)
+with_lot b old new lot same next =
+    subst (λ x. map pair_of lot.pairs ++ drop new.first (pairs_of x) ≡ drop old.first (pairs_of x)) same
+    (let all = pairs_of old.bounds in
+    let n : length lot.pairs ≡ min 4096 (length (drop old.first all)) = sym (length-map lot.pairs pair_of) ∙ ap length next.pairs ∙ length-take 4096 (drop old.first all) in
+    let front : map pair_of lot.pairs ≡ take (length lot.pairs) (drop old.first all) = next.pairs ∙ sym (ap (λ k. take k (drop old.first all)) n ∙ take_min 4096 (drop old.first all)) in
+    let back : drop new.first all ≡ drop (length lot.pairs) (drop old.first all) = ap (λ k. drop k all) next.next ∙ sym (drop-drop (length lot.pairs) old.first all) in
+    ap₂ ◌++◌ front back ∙ take-append-drop (length lot.pairs) (drop old.first all))
 
--- lawful trees are those of lawful pairs
-of_trees : (pairs : List Pair) → All IsLawful (map pair_of pairs) → All (λ p. IsLawful (pair_of p)) pairs
-of_trees [] h k d l = absurd (let bad : ⊥ = omega (arith, l) in bad)
-of_trees (x ∷ xs) h zero d l = h zero (pair_of x) (omega arith)
-of_trees (x ∷ xs) h (suc k) d l = of_trees xs (λ i e m. h (suc i) e (omega (arith, m))) k d (omega (arith, l))
+-- a part, the rest of the lot and the pairs behind the lot
+pub with_part : (lot part rest : List Pair) (behind : List PairTree) → part ++ rest ≡ lot → map pair_of part ++ (map pair_of rest ++ behind) ≡ map pair_of lot ++ behind
+with_part lot part rest behind together =
+    sym (append_assoc (map pair_of part) (map pair_of rest) behind) ∙ ap (λ l. l ++ behind) (sym (map-append pair_of part rest) ∙ ap (map pair_of) together)
 
--- and so are the pairs of a part
-pub part_lawful : (pairs part : List Pair) (first : ℕ) → map pair_of part ≡ take 512 (drop first (map pair_of pairs)) → All (λ p. IsLawful (pair_of p)) pairs → All (λ p. IsLawful (pair_of p)) part
-part_lawful pairs part first is lawful =
-    of_trees part (subst (All IsLawful) (sym is) (All-take IsLawful 512 (drop first (map pair_of pairs)) (All-drop IsLawful first (map pair_of pairs) (All-map IsLawful pair_of pairs lawful))))
+-- a list that was empty, filled with the next lot
+pub refilled : (b : Bounds) (old new : Progress) (lot : Lot) (items rest : List Pair) → items ≡ lot.pairs → rest ≡ [] → old.bounds ≡ b → IsNextLot old new lot
+    → map pair_of items ++ drop new.first (pairs_of b) ≡ map pair_of rest ++ drop old.first (pairs_of b)
+refilled b old new lot items rest is none same next =
+    ap (λ l. map pair_of l ++ drop new.first (pairs_of b)) is ∙ with_lot b old new lot same next ∙ ap (λ l. map pair_of l ++ drop old.first (pairs_of b)) (sym none)
 
--- the first pairs and the part behind them
-pub part_next : (all : List PairTree) (first : ℕ) (part : List PairTree) → part ≡ take 512 (drop first all) → take (first + length part) all ≡ take first all ++ part
-part_next all first part is =
-    take-add first (length part) all
-    ∙ ap (λ l. take first all ++ l) (ap (λ n. take n (drop first all)) (ap length is ∙ length-take 512 (drop first all)) ∙ (take_min 512 (drop first all) ∙ sym is))
+-- what holds of a lot's pairs holds of those of a part, and of the rest
+module _ (P : Pair → Type 0) (lot part rest : List Pair) (together : part ++ rest ≡ lot) (all : All P lot) where
+  pub of_part : All P part
+  of_part = subst (All P) (take-append_seam part rest) (All-take P (length part) (part ++ rest) (subst (All P) (sym together) all))
 
--- how many pairs a part has
-pub part_long : (pairs part : List Pair) (first : ℕ) → map pair_of part ≡ take 512 (drop first (map pair_of pairs)) → length part ≡ min 512 (length pairs - first)
-part_long pairs part first is =
-    sym (length-map part pair_of) ∙ ap length is ∙ length-take 512 (drop first (map pair_of pairs)) ∙ ap (min 512) (length-drop first (map pair_of pairs) ∙ ap (λ n. n - first) (length-map pairs pair_of))
-
--- a part puts the same of bounds that are the same
-pub same_bounds : (a b : Bounds) (pairs : List PairTree) (rose : Type 0) (old new : Option (List ℕ)) (r : Result ℕ Stop) → a ≡ b → PutsRulesOf a pairs rose old new r → PutsRulesOf b pairs rose old new r
-same_bounds a b pairs rose old new r e h = subst (λ x. PutsRulesOf x pairs rose old new r) e h
+  pub of_rest : All P rest
+  of_rest = subst (All P) (drop-append_seam part rest) (All-drop P (length part) (part ++ rest) (subst (All P) (sym together) all))

@@ -3,5 +3,6 @@
 
 mod parts;
 mod sharing;
+mod stage;
 
 pub use sharing::discover;

@@ -7,47 +7,20 @@ ghost use Rattle.wt_symbol.specs.Sides.{pair_of};
 ghost use Rattle.wt_discovery.specs.Discovering as spec;
 ghost use Rattle.wt_outcome.specs.Outcomes.{AppendsPrefix, Ends, Outcome};
 
-use crate::parts::part_of;
+use crate::parts::Parts;
+use crate::stage::run_stage;
 use std::alloc::Global;
 use std::sync::Wait;
 use std::thread::Threads;
 use wt_form::Prover;
 use wt_io::{Gate, Sink};
 use wt_outcome::{Stop, put};
-use wt_pair::{Bounds, Lot, Pairs};
-use wt_rule::{write_end, write_head};
-use wt_workers::discover_lines;
+use wt_pair::Bounds;
+use wt_rule::{Rules, write_end, write_head};
+use wt_workers::lines_of_rules;
 
-// Puts the lines of the rules of a lot, those of a part as soon as it is settled; answers their number.
-fn put_lot<R: Threads + Wait + Sync, P: Prover + Sync, K: Sink, G: Gate + Sync>(
-    rt: &R,
-    prover: &P,
-    alloc: Global,
-    lot: &Lot,
-    workers: u32,
-    sink: &mut K,
-    gate: &G,
-) -> Result<u64, Stop>
-    requires lawful { All (λ p. IsLawful (pair_of p)) lot.now.pairs }
-    requires some { 0 < workers }
-    requires most { workers ≤ 64 }
-    ensures puts { spec.PutsRulesOf lot.now.bounds (map pair_of lot.now.pairs) (Rose (K.faults sink.old) (K.faults sink.new)) (K.written sink.old) (K.written sink.new) result }
-    ensures later { K.faults sink.old ≤ K.faults sink.new }
-{
-    let mut count = 0u64;
-    let mut first = 0usize;
-    'parts: while first < lot.pairs.len() {
-        let part = part_of(alloc, lot, first)?;
-        let lines = discover_lines(rt, alloc, &part, prover, workers, gate)?;
-        put(sink, lines.text.as_slice())?;
-        count = count.saturating_add(lines.count);
-        first += part.pairs.len();
-    }
-    Ok(count)
-}
-
-// Puts the lines of the rules of all pairs, lot by lot; answers their number.
-fn put_lots<R: Threads + Wait + Sync, P: Prover + Sync, K: Sink, G: Gate + Sync>(
+// Puts the lines of the rules of all pairs, part by part; answers their number.
+fn put_parts<R: Threads + Wait + Sync, P: Prover + Sync, K: Sink, G: Gate + Sync>(
     rt: &R,
     prover: &P,
     alloc: Global,
@@ -63,12 +36,19 @@ fn put_lots<R: Threads + Wait + Sync, P: Prover + Sync, K: Sink, G: Gate + Sync>
     ensures later { K.faults sink.old ≤ K.faults sink.new }
 {
     let mut count = 0u64;
-    let mut pairs = Pairs::new(*bounds);
-    'lots: while let Some(lot) = pairs.next_lot(alloc)? {
-        let found = put_lot(rt, prover, alloc, &lot, workers, sink, gate)?;
-        count = count.saturating_add(found);
+    let mut parts = Parts::new(alloc, *bounds);
+    let mut next = parts.next_part(alloc)?;
+    let mut before = Rules::new(alloc);
+    'parts: while let Some(part) = next {
+        let stage = run_stage(rt, prover, alloc, &part, workers, gate, &before, &mut parts)?;
+        put(sink, stage.lines.text.as_slice())?;
+        count = count.saturating_add(stage.lines.count);
+        before = stage.found;
+        next = stage.next;
     }
-    Ok(count)
+    let last = lines_of_rules(alloc, before.as_slice())?;
+    put(sink, last.text.as_slice())?;
+    Ok(count.saturating_add(last.count))
 }
 
 fn try_discover<R: Threads + Wait + Sync, P: Prover + Sync, K: Sink, G: Gate + Sync>(
@@ -87,7 +67,7 @@ fn try_discover<R: Threads + Wait + Sync, P: Prover + Sync, K: Sink, G: Gate + S
 {
     let head = write_head(alloc, bounds.steps)?;
     put(sink, head.as_slice())?;
-    let count = put_lots(rt, prover, alloc, bounds, workers, sink, gate)?;
+    let count = put_parts(rt, prover, alloc, bounds, workers, sink, gate)?;
     let end = write_end(alloc, count)?;
     put(sink, end.as_slice())?;
     Ok(0)

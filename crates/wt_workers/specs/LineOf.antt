@@ -1,4 +1,4 @@
--- The lines of rules. Private contracts alone cite this file.
+-- The line of a rule.
 use Rattle.std.specs.Prelude.{ℕ, List}
 use Rattle.wt_symbol.specs.Sides.{pair_of}
 use Rattle.wt_rule.specs.declared.Rule.{Rule}

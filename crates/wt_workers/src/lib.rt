@@ -14,7 +14,7 @@ mod workers;
 
 pub use books::{BoardShare, Books, OwnShare};
 pub use desk::{Desk, NotPosted};
-pub use lines::discover_lines;
+pub use lines::lines_of_rules;
 pub use report::{Counts, LotReport};
 pub use std::alloc::AllocError as WantOfMemory;
 pub use workers::discover_lot;

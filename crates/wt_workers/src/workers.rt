@@ -187,7 +187,8 @@ pub fn discover_lot<R: Threads + Wait + Sync, P: Prover + Sync, G: Gate + Sync>(
     requires few { length lot.now.pairs < 2 ^ 32 }
     requires some { 0 < workers }
     requires most { workers ≤ 64 }
-    ensures { IfOk result (Reported (lot_tree lot.now) workers) }
+    ensures reported { IfOk result (Reported (lot_tree lot.now) workers) }
+    ensures lawful { IfOk result (λ report. All (λ r. IsLawful (pair_of r.pair)) report.rules) }
 {
     run::<Brand, Brand, R, P, G>(
         rt,

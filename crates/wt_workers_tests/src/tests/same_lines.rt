@@ -11,7 +11,7 @@ use wt_discover::{RuleLines, lines_of_pairs};
 use wt_io::NoGate;
 use wt_pair::Bounds;
 use wt_search::Search;
-use wt_workers::discover_lines;
+use wt_workers::{discover_lot, lines_of_rules};
 
 /// The lines of the first lot, found on this thread.
 fn alone(alloc: Global, bounds: Bounds) -> Result<RuleLines, AllocError>
@@ -39,7 +39,8 @@ fn shared<R: Threads + Wait + Sync>(
     requires most { workers ≤ 64 }
 {
     let lot = first_lot(alloc, bounds)?;
-    discover_lines(rt, alloc, &lot, &Search {}, workers, &NoGate)
+    let report = discover_lot(rt, alloc, &lot, &Search {}, workers, &NoGate)?;
+    lines_of_rules(alloc, report.rules.as_slice())
 }
 
 /// Whether so many workers find the lines that one thread finds.

@@ -23,7 +23,7 @@ returns-in_err-count g c =
     let p = err_from_is_err_and c.from_residual-in_err-count.result c.from_residual-in_err-count.ensures.1 in
     let text : c.as_slice.result.now ≡ head_line c.args.bounds.now.steps = search rules in
     let head : g.K.Sink.written c.put.new.sink ≡ append_known (g.K.Sink.written c.args.sink.now) (head_line c.args.bounds.now.steps) = c.in_ok-put.ensures.puts ∙ ap (append_known (g.K.Sink.written c.args.sink.now)) text in
-    rw (p.1, p.2) (stops_between c.args.bounds.now _ (g.K.Sink.written c.args.sink.now) (g.K.Sink.written c.put.new.sink) head _ (rose_since _ _ _ c.in_ok-put.ensures.later) (g.K.Sink.written c.put_lots.new.sink) _ c.in_err-count.ensures.puts)
+    rw (p.1, p.2) (stops_between c.args.bounds.now _ (g.K.Sink.written c.args.sink.now) (g.K.Sink.written c.put.new.sink) head _ (rose_since _ _ _ c.in_ok-put.ensures.later) (g.K.Sink.written c.put_parts.new.sink) _ c.in_err-count.ensures.puts)
 
 pub returns-in_err-end : goal.returns-in_err-end
 returns-in_err-end g c =
@@ -31,8 +31,8 @@ returns-in_err-end g c =
     let text : c.as_slice.result.now ≡ head_line c.args.bounds.now.steps = search rules in
     let head : g.K.Sink.written c.put.new.sink ≡ append_known (g.K.Sink.written c.args.sink.now) (head_line c.args.bounds.now.steps) = c.in_ok-put.ensures.puts ∙ ap (append_known (g.K.Sink.written c.args.sink.now)) text in
     let (lines, are, put) = c.in_ok-count.ensures.puts in
-    rw (p.1, p.2) (stops_after_rules c.args.bounds.now ⊥ (g.K.Sink.written c.args.sink.now) (g.K.Sink.written c.put.new.sink) head (g.K.Sink.written c.put_lots.new.sink) lines c.in_ok-count.count are put ⊥ (λ i. i)
-    (g.K.Sink.written c.put_lots.new.sink) Memory _ refl (prefix_none (g.K.Sink.written c.put_lots.new.sink) (end_line c.in_ok-count.count)))
+    rw (p.1, p.2) (stops_after_rules c.args.bounds.now ⊥ (g.K.Sink.written c.args.sink.now) (g.K.Sink.written c.put.new.sink) head (g.K.Sink.written c.put_parts.new.sink) lines c.in_ok-count.count are put ⊥ (λ i. i)
+    (g.K.Sink.written c.put_parts.new.sink) Memory _ refl (prefix_none (g.K.Sink.written c.put_parts.new.sink) (end_line c.in_ok-count.count)))
 
 pub returns-in_err-put-2 : goal.returns-in_err-put-2
 returns-in_err-put-2 g c =
@@ -41,8 +41,8 @@ returns-in_err-put-2 g c =
     let head : g.K.Sink.written c.put.new.sink ≡ append_known (g.K.Sink.written c.args.sink.now) (head_line c.args.bounds.now.steps) = c.in_ok-put.ensures.puts ∙ ap (append_known (g.K.Sink.written c.args.sink.now)) text in
     let (lines, are, put) = c.in_ok-count.ensures.puts in
     let end : c.as_slice-2.result.now ≡ end_line c.in_ok-count.count = search rules in
-    let later : g.K.Sink.faults c.args.sink.now ≤ g.K.Sink.faults c.put_lots.new.sink = omega (arith, c.in_ok-put.ensures.later, c.in_ok-count.ensures.later) in
-    rw (p.1, p.2) (stops_after_rules c.args.bounds.now _ (g.K.Sink.written c.args.sink.now) (g.K.Sink.written c.put.new.sink) head (g.K.Sink.written c.put_lots.new.sink) lines c.in_ok-count.count are put _
+    let later : g.K.Sink.faults c.args.sink.now ≤ g.K.Sink.faults c.put_parts.new.sink = omega (arith, c.in_ok-put.ensures.later, c.in_ok-count.ensures.later) in
+    rw (p.1, p.2) (stops_after_rules c.args.bounds.now _ (g.K.Sink.written c.args.sink.now) (g.K.Sink.written c.put.new.sink) head (g.K.Sink.written c.put_parts.new.sink) lines c.in_ok-count.count are put _
     (rose_since _ _ _ (later)) (g.K.Sink.written c.put-2.new.sink) _ _ end c.in_err-put-2.ensures.puts)
 
 pub returns : goal.returns
@@ -51,5 +51,5 @@ returns g c =
     let head : g.K.Sink.written c.put.new.sink ≡ append_known (g.K.Sink.written c.args.sink.now) (head_line c.args.bounds.now.steps) = c.in_ok-put.ensures.puts ∙ ap (append_known (g.K.Sink.written c.args.sink.now)) text in
     let (lines, are, put) = c.in_ok-count.ensures.puts in
     let end : c.as_slice-2.result.now ≡ end_line c.in_ok-count.count = search rules in
-    ends_whole c.args.bounds.now ⊥ (g.K.Sink.written c.args.sink.now) (g.K.Sink.written c.put.new.sink) head (g.K.Sink.written c.put_lots.new.sink) lines c.in_ok-count.count are put (g.K.Sink.written c.put-2.new.sink)
-    (c.in_ok-put-2.ensures.puts ∙ ap (append_known (g.K.Sink.written c.put_lots.new.sink)) end)
+    ends_whole c.args.bounds.now ⊥ (g.K.Sink.written c.args.sink.now) (g.K.Sink.written c.put.new.sink) head (g.K.Sink.written c.put_parts.new.sink) lines c.in_ok-count.count are put (g.K.Sink.written c.put-2.new.sink)
+    (c.in_ok-put-2.ensures.puts ∙ ap (append_known (g.K.Sink.written c.put_parts.new.sink)) end)

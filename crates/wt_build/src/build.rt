@@ -73,12 +73,12 @@ fn planned(alloc: Global, scope: &Scope, q: &Query, leaves: Leaves) -> Result<Bu
 
 /// Adds the items of a FROM clause, and gives the plans of its tables and derived tables.
 #[cycle(build)]
-fn gather(
+fn gather<'a>(
     alloc: Global,
-    schema: &Schema,
+    schema: &'a Schema,
     outer: &[&FromPart],
-    from: &FromPart,
-    out: &mut Sources,
+    from: &'a FromPart,
+    out: &mut Sources<'a>,
 ) -> Result<Leaves, BuildError>
     requires small { items_in_from (from_tree from.now) ≤ 256 }
     ensures { Tells (faults.from_fault schema.now.tables (outer_columns schema.now.tables outer.now) (aliases out.old.items.items) (from_tree from.now))
@@ -90,7 +90,7 @@ fn gather(
             alias,
             at,
             alias_at,
-        } => table_leaf(alloc, schema, name, alias, *at, *alias_at, out),
+        } => table_leaf(schema, name, alias, *at, *alias_at, out),
         FromPart::Derived {
             query,
             alias,
@@ -112,13 +112,13 @@ fn gather(
 
 /// The same for two operands.
 #[cycle(build)]
-fn gather_two(
+fn gather_two<'a>(
     alloc: Global,
-    schema: &Schema,
+    schema: &'a Schema,
     outer: &[&FromPart],
-    left: &FromPart,
-    right: &FromPart,
-    out: &mut Sources,
+    left: &'a FromPart,
+    right: &'a FromPart,
+    out: &mut Sources<'a>,
 ) -> Result<Leaves, BuildError>
     requires small { items_in_from (from_tree left.now) + items_in_from (from_tree right.now) ≤ 256 }
     ensures { Tells (both_faults schema.now.tables (outer_columns schema.now.tables outer.now) (aliases out.old.items.items) (from_tree left.now) (from_tree right.now))

@@ -20,8 +20,8 @@ use std::alloc::Global;
 use wt_ast::{CondKind, Condition, Conditions, FromPart, Query};
 use wt_conjunct::Conjunct;
 use wt_from::{
-    enclosing, finished, inner_list, leaf_list, left_list, longer, places, push_member, push_test,
-    right_list, single, split,
+    enclosing, finished, join_list, leaf_list, longer, padded, places, push_member, push_test,
+    single, split,
 };
 use wt_joins::{Comma, CommaList, Part};
 use wt_query_plan::BuildError;
@@ -152,27 +152,21 @@ fn listed(
             right,
             on,
             on_at,
-        } => {
-            let (one, other, conjuncts) = joined(alloc, scope, block, left, right, on, leaves)?;
-            inner_list(alloc, one, other, conjuncts, *on_at)
         }
-        FromPart::Left {
+        | FromPart::Left {
+            left,
+            right,
+            on,
+            on_at,
+        }
+        | FromPart::Right {
             left,
             right,
             on,
             on_at,
         } => {
             let (one, other, conjuncts) = joined(alloc, scope, block, left, right, on, leaves)?;
-            left_list(alloc, one, other, conjuncts, on, *on_at)
-        }
-        FromPart::Right {
-            left,
-            right,
-            on,
-            on_at,
-        } => {
-            let (one, other, conjuncts) = joined(alloc, scope, block, left, right, on, leaves)?;
-            right_list(alloc, one, other, conjuncts, on, *on_at)
+            join_list(alloc, padded(from), one, other, conjuncts, on, *on_at)
         }
         FromPart::Comma {
             left,

@@ -5,7 +5,12 @@ use Rattle.wt_query_plan.specs.Building as spec
 use Rattle.wt_query_plan.specs.Building.{Conjunct}
 use Rattle.wt_plan.proofs.Upto.{length_map}
 use Rattle.wt_joins.specs.Parts.{PartTree, onward}
-use Rattle.wt_joins.specs.Commas.{comma_operand, list_operand, list_width}
+use Rattle.wt_joins.specs.Commas.{free_at, comma_operand, list_operand, list_width}
+
+-- where there is no comma, no conjunct links one
+pub all_free : (js : List Conjunct) → free_at [] js ≡ js
+all_free [] = refl
+all_free (j ∷ js) = ap (λ l. j ∷ l) (all_free js)
 
 pub no_pair : (b : Bool) {o : Option (ℕ × ℕ)} → o ≡ None → None ≡ cond b o None
 no_pair true e = sym e

@@ -118,7 +118,6 @@ fn unlinked(
 }
 
 /// The conjuncts that link no comma: all of them where there is none.
-#[tactic(auto, using(crate::proofs::Listing::all_free))]
 pub fn freed(
     alloc: Global,
     commas: &[Comma],

@@ -1,7 +1,7 @@
 //! What a FROM clause brings, table by table.
-ghost use Rattle.std.specs.Prelude.{◌≡◌, ◌++◌, ◌∷◌, [], not, nat_eq, map, length, IfOk, OnOk};
+ghost use Rattle.std.specs.Prelude.{◌≡◌, ◌<◌, ◌++◌, ◌∷◌, [], not, nat_eq, map, length, slice_get, Some, IfOk, OnOk};
 ghost use Rattle.std.specs.List.{list_any};
-ghost use Rattle.std.specs.Option.{unwrap_or};
+ghost use Rattle.std.specs.Option.{option_map, unwrap_or};
 ghost use Rattle.std.specs.Str.{bytes_eq};
 ghost use Rattle.wt_schema.specs.declared.schema.Column as declared;
 ghost use Rattle.wt_schema.specs.declared.schema.Table.{Table};
@@ -22,7 +22,7 @@ use crate::leaves::Leaves;
 use std::alloc::Global;
 use wt_plan::Plan;
 use wt_query_plan::{BuildError, BuildFault};
-use wt_resolve::{ScopeItem, columns_named};
+use wt_resolve::ScopeItem;
 use wt_schema::{ColKind, Column, Schema};
 use wt_value::{Name, Names, WantOfMemory};
 
@@ -54,13 +54,26 @@ impl<'a> Sources<'a> {
     }
 }
 
-/// The number of the table of a name.
+/// The columns of the table of a number.
+fn columns_at(schema: &Schema, number: usize) -> &[Column]
+    requires { number < length schema.now.tables }
+    ensures { option_map (λ (t : Table). t.columns) (slice_get schema.now.tables number) ≡ Some result.now }
+{
+    schema.tables.as_slice()[number].columns.as_slice()
+}
+
+/// The number of the table of a name, and its columns.
 #[tactic(auto, using(crate::proofs::Names::tables))]
-fn known_table(schema: &Schema, name: &Name, at: u32) -> Result<u32, BuildError>
-    ensures { Tells (fault_if (not (list_any (λ (t : Table). bytes_eq t.name name.now) schema.now.tables)) kinds.UnknownTable at) (λ n. n ≡ spec.table_number schema.now.tables name.now) result }
+fn known_table<'a>(
+    schema: &'a Schema,
+    name: &Name,
+    at: u32,
+) -> Result<(u32, &'a [Column]), BuildError>
+    ensures { Tells (fault_if (not (list_any (λ (t : Table). bytes_eq t.name name.now) schema.now.tables)) kinds.UnknownTable at)
+        (λ found. (found.0 ≡ spec.table_number schema.now.tables name.now) × (found.1.now ≡ scopes.columns_named schema.now.tables name.now)) result }
 {
     match schema.table_number(name) {
-        Some(number) => Ok(number as u32),
+        Some(number) => Ok((number as u32, columns_at(schema, number))),
         None => Err(BuildError::Refused(BuildFault::UnknownTable, at)),
     }
 }
@@ -125,10 +138,9 @@ pub fn table_leaf<'a>(
     ensures { Tells (first_of (fault_if (not (list_any (λ (t : Table). bytes_eq t.name name.now) schema.now.tables)) kinds.UnknownTable at) (faults.alias_fault (aliases out.old.items.items) (unwrap_or alias.now name.now) alias_at))
         (λ leaves. (leaves_tree leaves ≡ leaf (plans.table (spec.table_number schema.now.tables name.now) (length (scopes.columns_named schema.now.tables name.now)))) × Adds (item (unwrap_or alias.now name.now) (scopes.column_names (scopes.columns_named schema.now.tables name.now)) ∷ []) (map (λ (c : declared.Column). c.kind) (scopes.columns_named schema.now.tables name.now)) out.old out.new) result }
 {
-    let number = known_table(schema, name, at)?;
+    let (number, columns) = known_table(schema, name, at)?;
     let alias = alias_of(name, alias);
     alias_told(&out.items, alias, alias_at)?;
-    let columns = columns_named(schema, name);
     push_table(alias, columns, out)?;
     Ok(Leaves::One(Plan::Table(number, columns.len() as u32)))
 }

@@ -14,6 +14,7 @@ use Rattle.wt_plan.specs.Tree.{plan_tree}
 use Rattle.wt_resolve.specs.Scoping.{outside, inside, outer_columns}
 use Rattle.wt_conjunct.specs.declared.stack.Conjunct.{Conjunct}
 use Rattle.wt_conjunct.specs.Views.{conjunct_trees}
+use Rattle.wt_joins.specs.declared.part.Part.{Part}
 use Rattle.wt_joins.specs.Parts.{part_tree}
 use Rattle.wt_query_bounds.specs.Bounds.{items_in_from}
 use Rattle.wt_sources.specs.declared.leaves.Leaves.{Leaves}
@@ -26,8 +27,8 @@ use Rattle.wt_clause.proofs.Joined.{part_wide, part_within}
 use Rattle.wt_clause.proofs.Walks.{seen_inside, seen_narrow, seen_width, comma_halves}
 use Rattle.wt_from.specs.Joins.{padded_by, joined_operand, join_fault}
 use Rattle.wt_from.proofs.Telling.{way_out, told_then}
-use Rattle.wt_build.specs.Walk.{on_fault}
-use Rattle.wt_build.proofs.Steps.{told_as, counted_by, each_as, few_and_halves, join_told, from_is, few_two, one_of_four, added_twice, next_fault, few_in_filter, filter_some, ready_clause, both_narrow, on_same, on_is, single_is, longer_is, member_same}
+use Rattle.wt_build.specs.Walk.{on_fault, on_conjuncts}
+use Rattle.wt_build.proofs.Steps.{told_as, counted_by, each_as, few_and_halves, join_out, join_told, from_is, few_two, one_of_three, one_of_four, added_twice, next_fault, few_in_filter, filter_some, ready_clause, both_narrow, on_same, on_is, single_is, longer_is, member_same}
 use Rattle.wt_build.proofs.build.+build.Goals as goal
 
 pub built_query-planned-requires : goal.built_query-planned-requires
@@ -177,6 +178,13 @@ pub listed-overflow_cast-comma-in-Comma : goal.listed-overflow_cast-comma-in-Com
 listed-overflow_cast-comma-in-Comma t c =
     let wide = seen_width c.args.scope.now (from_tree c.args.from.now) c.requires.ready.seen in
     omega (arith, wide, c.requires.ready.seen.narrow)
+
+pub listed-returns-in_err-one-in-Inner : goal.listed-returns-in_err-one-in-Inner
+listed-returns-in_err-one-in-Inner t c =
+    one_of_three c.in-Inner.is
+    (λ e. let tree = ap from_tree e in search (rules, arith, from_parts.the_lemmas, e, tree))
+    (λ e. let tree = ap from_tree e in search (rules, arith, from_parts.the_lemmas, e, tree))
+    (λ e. let tree = ap from_tree e in search (rules, arith, from_parts.the_lemmas, e, tree))
 
 pub listed-returns-in_ok-one-in-Inner : goal.listed-returns-in_ok-one-in-Inner
 listed-returns-in_ok-one-in-Inner t c =

@@ -1,6 +1,5 @@
 -- What one step of the walk over a query tells, told of the FROM clause or of the condition.
-use Rattle.std.proofs.Common.{◌≡◌, ◌⊎◌, inl, inr, ℕ, ◌+◌, ◌-◌, ◌<◌, ◌≤◌, ◌^◌, nat_eq, nat_lt, Bool, not, List, [], ◌∷◌, ◌++◌, map, length, length-append, append_assoc, None, Some, Result, Ok, Err, refl, sym, ap, subst, ◌∙◌, arith}
-use Rattle.std.specs.Result.{IsErrAnd}
+use Rattle.std.proofs.Common.{◌≡◌, ◌⊎◌, inl, inr, ℕ, ◌+◌, ◌-◌, ◌<◌, ◌≤◌, ◌^◌, nat_eq, not, List, [], ◌∷◌, ◌++◌, map, length, length-append, append_assoc, None, Some, Result, Ok, Err, refl, sym, ap, subst, ◌∙◌, arith}
 use Rattle.wt_ast.specs.Tree.{QueryTree, FromTree, CondTree, filter_by, in_query, inner_join, left_join, right_join, comma, query_tree, from_tree, filter_tree, condition_tree}
 use Rattle.wt_ast.specs.declared.tree.Query.{Query, out-Query}
 use Rattle.wt_ast.specs.declared.tree.Condition.{Condition}
@@ -14,10 +13,9 @@ use Rattle.wt_plan.proofs.Upto.{length_map}
 use Rattle.wt_query_rows.specs.declared.scope.ScopeColumn.{ScopeColumn}
 use Rattle.wt_query_rows.specs.Scopes.{scope_of}
 use Rattle.wt_query_plan.specs.declared.fault.BuildError.{BuildError}
-use Rattle.wt_query_plan.specs.declared.fault.BuildError.TheVariants.{Refused, Memory}
-use Rattle.wt_query_plan.specs.declared.fault.BuildFault.TheVariants.{InWidth, NoJoinEquality, TypeMismatch}
+use Rattle.wt_query_plan.specs.declared.fault.BuildFault.TheVariants.{InWidth, TypeMismatch}
 use Rattle.wt_query_plan.specs.Building.{Conjunct, place_of, conjuncts}
-use Rattle.wt_query_plan.specs.Faults.{Fault, first_of, fault_if, from_fault, joins_fault, cond_fault, columns_fault, query_fault, outer_fault, unpaired, conjunct_places, aliases_of, kinds_of, kinds_same, column_kind, output_kinds}
+use Rattle.wt_query_plan.specs.Faults.{Fault, first_of, fault_if, from_fault, joins_fault, cond_fault, columns_fault, query_fault, conjunct_places, aliases_of, kinds_of, kinds_same, column_kind, output_kinds}
 use Rattle.wt_query_plan.specs.Telling.{Tells}
 use Rattle.wt_resolve.specs.declared.lookup.ScopeItem.{ScopeItem}
 use Rattle.wt_resolve.specs.declared.lookup.Scope.{Scope}
@@ -34,7 +32,7 @@ use Rattle.wt_clause.proofs.Commas.{whole_list}
 use Rattle.wt_clause.proofs.Joined as joined
 use Rattle.wt_clause.proofs.Walks.{seen_clause, inner_halves, left_halves, right_halves}
 use Rattle.wt_from.specs.Joins.{padded_by, joined_operand, join_fault}
-use Rattle.wt_from.proofs.Telling.{refused, way_out}
+use Rattle.wt_from.proofs.Telling.{refused}
 use Rattle.wt_build.specs.Walk.{both_faults, on_fault, on_conjuncts}
 
 -- the same in other words
@@ -155,38 +153,7 @@ module _ (scope : Scope) (f l r : FromTree) (on : CondTree) (at : ℕ) (leaves :
   few_and_halves (inr (inl e)) h = let k = subst (λ g. Ready g scope leaves) e h in (few_on l r on k.small, left_halves scope l r on at leaves k)
   few_and_halves (inr (inr e)) h = let k = subst (λ g. Ready g scope leaves) e h in (few_on l r on k.small, right_halves scope l r on at leaves k)
 
--- what was told of its operands and of its ON, told of the clause
-told_first : {T U : Type 0} (f g : Fault) (P : T → Type 0) (Q : U → Type 0) (e : BuildError) → Tells f P (Err e) → Tells (first_of f g) Q (Err e)
-told_first f g P Q (Refused k at) h = ap (λ x. first_of x g) h
-told_first f g P Q Memory h = tt
-
-first_behind : (f g h : Fault) → first_of (first_of f g) h ≡ first_of f (first_of g h)
-first_behind None g h = refl
-first_behind (Some f) g h = refl
-
-module _ (S : List Table) (outer block : List ScopeColumn) (l r : FromTree) (on : CondTree) (at : ℕ) where
-  abbrev cond_told : Fault
-  cond_told = cond_fault S outer block (scope_of S l ++ scope_of S r) (kinds_of S l ++ kinds_of S r) on
-
-  abbrev no_pair : Fault
-  no_pair = fault_if (unpaired (length (scope_of S l)) (conjuncts S (scope_of S l ++ scope_of S r) on)) NoJoinEquality at
-
-  abbrev padded_told : (ℕ → Bool) → Fault
-  padded_told padded = first_of (outer_fault padded (length (scope_of S l)) (conjuncts S (scope_of S l ++ scope_of S r) on) (conjunct_places on)) no_pair
-
-  pub join_out : {T U : Type 0} (P : T → Type 0) (Q : U → Type 0) (e : BuildError) (got : Result U BuildError) (f : FromTree) → IsJoin f l r on at → IsErrAnd got (λ y. y ≡ e)
-      → Tells (on_fault S outer block l r on) P (Err e) → Tells (joins_fault S outer block f) Q got
-  join_out P Q e got f is was h = whichever is
-    where
-      out : (d : Fault) → first_of (first_of (joins_fault S outer block l) (joins_fault S outer block r)) (first_of cond_told d) ≡ joins_fault S outer block f → Tells (joins_fault S outer block f) Q got
-      out d same = way_out (first_of (on_fault S outer block l r on) d) (joins_fault S outer block f) Q Q e got
-          (first_behind (first_of (joins_fault S outer block l) (joins_fault S outer block r)) cond_told d ∙ same) was (told_first (on_fault S outer block l r on) d P Q e h)
-
-      whichever : IsJoin f l r on at → Tells (joins_fault S outer block f) Q got
-      whichever (inl k) = out no_pair (ap (joins_fault S outer block) (sym k))
-      whichever (inr (inl k)) = out (padded_told (λ k. not (nat_lt k (length (scope_of S l))))) (ap (joins_fault S outer block) (sym k))
-      whichever (inr (inr k)) = out (padded_told (λ k. nat_lt k (length (scope_of S l)))) (ap (joins_fault S outer block) (sym k))
-
+-- what it told of its operands, told of the clause
 module _ (S : List Table) (outer block : List ScopeColumn) (l r : FromTree) (on : CondTree) (at : ℕ) (js : List Conjunct) (one other : PartTree) (result : Result CommaList BuildError)
     (parts : first_of (joins_fault S outer block l) (joins_fault S outer block r) ≡ None) (none : cond_fault S outer block (scope_of S l ++ scope_of S r) (kinds_of S l ++ kinds_of S r) on ≡ None)
     (is : js ≡ conjuncts S (scope_of S l ++ scope_of S r) on) (left : one ≡ from_operand S l) (right : other ≡ from_operand S r) where

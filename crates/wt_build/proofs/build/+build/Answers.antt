@@ -14,7 +14,6 @@ use Rattle.wt_plan.specs.Tree.{plan_tree}
 use Rattle.wt_resolve.specs.Scoping.{outside, inside, outer_columns}
 use Rattle.wt_conjunct.specs.declared.stack.Conjunct.{Conjunct}
 use Rattle.wt_conjunct.specs.Views.{conjunct_trees}
-use Rattle.wt_joins.specs.declared.part.Part.{Part}
 use Rattle.wt_joins.specs.Parts.{part_tree}
 use Rattle.wt_query_bounds.specs.Bounds.{items_in_from}
 use Rattle.wt_sources.specs.declared.leaves.Leaves.{Leaves}
@@ -27,8 +26,8 @@ use Rattle.wt_clause.proofs.Joined.{part_wide, part_within}
 use Rattle.wt_clause.proofs.Walks.{seen_inside, seen_narrow, seen_width, comma_halves}
 use Rattle.wt_from.specs.Joins.{padded_by, joined_operand, join_fault}
 use Rattle.wt_from.proofs.Telling.{way_out, told_then}
-use Rattle.wt_build.specs.Walk.{on_fault, on_conjuncts}
-use Rattle.wt_build.proofs.Steps.{told_as, counted_by, each_as, few_and_halves, join_out, join_told, from_is, few_two, one_of_three, one_of_four, added_twice, next_fault, few_in_filter, filter_some, ready_clause, both_narrow, on_same, on_is, single_is, longer_is, member_same}
+use Rattle.wt_build.specs.Walk.{on_fault}
+use Rattle.wt_build.proofs.Steps.{told_as, counted_by, each_as, few_and_halves, join_told, from_is, few_two, one_of_three, one_of_four, added_twice, next_fault, few_in_filter, filter_some, ready_clause, both_narrow, on_same, on_is, single_is, longer_is, member_same}
 use Rattle.wt_build.proofs.build.+build.Goals as goal
 
 pub built_query-planned-requires : goal.built_query-planned-requires
@@ -195,8 +194,8 @@ listed-returns-in_ok-one-in-Inner t c =
     let on = condition_tree c.in-Inner.on in
     let block = scope_of S (from_tree c.args.block.now) in
     let none : on_fault S (outside scope) block l r on ≡ None = search rules in
-    let both = neither _ _ none in
     let side : c.padded.result ≡ padded_by (from_tree c.args.from.now) = search rules in
+    let both = neither _ _ none in
     join_told S (outside scope) block l r on c.in-Inner.on_at (conjunct_trees c.in_ok-one-in-Inner.conjuncts.items) (part_tree c.in_ok-one-in-Inner.one) (part_tree c.in_ok-one-in-Inner.other) c.join_list.result
     both.0 both.1 (search rules) (search rules) (search rules) (from_tree c.args.from.now) (each_as from_tree c.in-Inner.is)
     (subst (λ p. Tells (join_fault p (length c.in_ok-one-in-Inner.one.places.items) (conjunct_trees c.in_ok-one-in-Inner.conjuncts.items) (conjunct_places on) c.in-Inner.on_at) (IsList (joined_operand p (conjunct_trees c.in_ok-one-in-Inner.conjuncts.items) (part_tree c.in_ok-one-in-Inner.one) (part_tree c.in_ok-one-in-Inner.other)) [] []) c.join_list.result) side c.join_list.ensures)

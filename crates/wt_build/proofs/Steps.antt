@@ -1,6 +1,6 @@
 -- What one step of the walk over a query tells, told of the FROM clause or of the condition.
 use Rattle.std.proofs.Common.{◌≡◌, ◌⊎◌, inl, inr, ℕ, ◌+◌, ◌-◌, ◌<◌, ◌≤◌, ◌^◌, nat_eq, not, List, [], ◌∷◌, ◌++◌, map, length, length-append, append_assoc, None, Some, Result, Ok, Err, refl, sym, ap, subst, ◌∙◌, arith}
-use Rattle.wt_ast.specs.Tree.{QueryTree, FromTree, CondTree, filter_by, in_query, comma, query_tree, from_tree, filter_tree, condition_tree}
+use Rattle.wt_ast.specs.Tree.{QueryTree, FromTree, CondTree, filter_by, in_query, inner_join, left_join, right_join, comma, query_tree, from_tree, filter_tree, condition_tree}
 use Rattle.wt_ast.specs.declared.tree.Query.{Query, out-Query}
 use Rattle.wt_ast.specs.declared.tree.Condition.{Condition}
 use Rattle.wt_ast.specs.declared.tree.ColumnName.{ColumnName}
@@ -14,8 +14,8 @@ use Rattle.wt_query_rows.specs.declared.scope.ScopeColumn.{ScopeColumn}
 use Rattle.wt_query_rows.specs.Scopes.{scope_of}
 use Rattle.wt_query_plan.specs.declared.fault.BuildError.{BuildError}
 use Rattle.wt_query_plan.specs.declared.fault.BuildFault.TheVariants.{InWidth, TypeMismatch}
-use Rattle.wt_query_plan.specs.Building.{place_of, conjuncts}
-use Rattle.wt_query_plan.specs.Faults.{Fault, first_of, fault_if, from_fault, joins_fault, cond_fault, columns_fault, query_fault, aliases_of, kinds_of, kinds_same, column_kind, output_kinds}
+use Rattle.wt_query_plan.specs.Building.{Conjunct, place_of, conjuncts}
+use Rattle.wt_query_plan.specs.Faults.{Fault, first_of, fault_if, from_fault, joins_fault, cond_fault, columns_fault, query_fault, conjunct_places, aliases_of, kinds_of, kinds_same, column_kind, output_kinds}
 use Rattle.wt_query_plan.specs.Telling.{Tells}
 use Rattle.wt_resolve.specs.declared.lookup.ScopeItem.{ScopeItem}
 use Rattle.wt_resolve.specs.declared.lookup.Scope.{Scope}
@@ -29,7 +29,9 @@ use Rattle.wt_clause.specs.Lists.{from_operand, first_operand, later_operands, c
 use Rattle.wt_clause.specs.Walking.{from_of, filter_of, Ready, Halves}
 use Rattle.wt_clause.proofs.Clauses.{aliases_next, columns_append, scope_items}
 use Rattle.wt_clause.proofs.Commas.{whole_list}
-use Rattle.wt_clause.proofs.Walks.{seen_clause}
+use Rattle.wt_clause.proofs.Joined as joined
+use Rattle.wt_clause.proofs.Walks.{seen_clause, inner_halves, left_halves, right_halves}
+use Rattle.wt_from.specs.Joins.{padded_by, joined_operand, join_fault}
 use Rattle.wt_from.proofs.Telling.{refused}
 use Rattle.wt_build.specs.Walk.{both_faults, on_fault, on_conjuncts}
 
@@ -60,6 +62,16 @@ one_of_four (inl a) f g h k = f a
 one_of_four (inr (inl b)) f g h k = g b
 one_of_four (inr (inr (inl c))) f g h k = h c
 one_of_four (inr (inr (inr d))) f g h k = k d
+
+pub one_of_three : {A B C E : Type 0} → A ⊎ (B ⊎ C) → (A → E) → (B → E) → (C → E) → E
+one_of_three (inl a) f g h = f a
+one_of_three (inr (inl b)) f g h = g b
+one_of_three (inr (inr c)) f g h = h c
+
+pub each_as : {X Y : Type 0} (f : X → Y) {x a b c : X} → (x ≡ a) ⊎ ((x ≡ b) ⊎ (x ≡ c)) → (f x ≡ f a) ⊎ ((f x ≡ f b) ⊎ (f x ≡ f c))
+each_as f (inl e) = inl (ap f e)
+each_as f (inr (inl e)) = inr (inl (ap f e))
+each_as f (inr (inr e)) = inr (inr (ap f e))
 
 -- a query whose items are gathered
 module _ (q : Query) where
@@ -130,3 +142,28 @@ module _ (S : List Table) (outer block scope : List ScopeColumn) (ks : List ColK
       (λ i. member_fault (e i) (k i) word_at)
       ∙ (λ i. first_of (fault_if (not (nat_eq (length_map (place_of scope) cs i) (length (output_kinds S q)))) InWidth word_at) (fault_if (not (kinds_same (kinds_at_places cs i) (output_kinds S q))) TypeMismatch word_at))
       ∙ (λ i. first_of (sym none i) (first_of (sym known i) (first_of (fault_if (not (nat_eq (length cs) (length (output_kinds S q)))) InWidth word_at) (fault_if (not (kinds_same (map (column_kind scope ks) cs) (output_kinds S q))) TypeMismatch word_at))))
+
+-- a join of two operands, whichever it is
+abbrev pub IsJoin : FromTree → FromTree → FromTree → CondTree → ℕ → Type 0
+IsJoin f l r on at = (f ≡ inner_join l r on at) ⊎ ((f ≡ left_join l r on at) ⊎ (f ≡ right_join l r on at))
+
+module _ (scope : Scope) (f l r : FromTree) (on : CondTree) (at : ℕ) (leaves : LeavesTree) where
+  pub few_and_halves : IsJoin f l r on at → Ready f scope leaves → (items_in_cond on ≤ 256) × Halves l r scope leaves
+  few_and_halves (inl e) h = let k = subst (λ g. Ready g scope leaves) e h in (few_on l r on k.small, inner_halves scope l r on at leaves k)
+  few_and_halves (inr (inl e)) h = let k = subst (λ g. Ready g scope leaves) e h in (few_on l r on k.small, left_halves scope l r on at leaves k)
+  few_and_halves (inr (inr e)) h = let k = subst (λ g. Ready g scope leaves) e h in (few_on l r on k.small, right_halves scope l r on at leaves k)
+
+-- what it told of its operands, told of the clause
+module _ (S : List Table) (outer block : List ScopeColumn) (l r : FromTree) (on : CondTree) (at : ℕ) (js : List Conjunct) (one other : PartTree) (result : Result CommaList BuildError)
+    (parts : first_of (joins_fault S outer block l) (joins_fault S outer block r) ≡ None) (none : cond_fault S outer block (scope_of S l ++ scope_of S r) (kinds_of S l ++ kinds_of S r) on ≡ None)
+    (is : js ≡ conjuncts S (scope_of S l ++ scope_of S r) on) (left : one ≡ from_operand S l) (right : other ≡ from_operand S r) where
+  abbrev ToldOfClause : FromTree → Type 0
+  ToldOfClause f = Tells (joins_fault S outer block f) (IsList (first_operand S f) (later_operands S f) (commas_of S f)) result
+
+  abbrev ToldOfJoin : FromTree → Type 0
+  ToldOfJoin f = Tells (join_fault (padded_by f) (length one.places) js (conjunct_places on) at) (IsList (joined_operand (padded_by f) js one other) [] []) result
+
+  pub join_told : (f : FromTree) → IsJoin f l r on at → ToldOfJoin f → ToldOfClause f
+  join_told f (inl e) h = subst ToldOfClause (sym e) (joined.inner_told S outer block (scope_of S l ++ scope_of S r) (kinds_of S l ++ kinds_of S r) l r on at js one other result parts none refl refl is left right (subst ToldOfJoin e h))
+  join_told f (inr (inl e)) h = subst ToldOfClause (sym e) (joined.left_told S outer block (scope_of S l ++ scope_of S r) (kinds_of S l ++ kinds_of S r) l r on at js one other result parts none refl refl is left right (subst ToldOfJoin e h))
+  join_told f (inr (inr e)) h = subst ToldOfClause (sym e) (joined.right_told S outer block (scope_of S l ++ scope_of S r) (kinds_of S l ++ kinds_of S r) l r on at js one other result parts none refl refl is left right (subst ToldOfJoin e h))

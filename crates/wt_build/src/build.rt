@@ -20,8 +20,8 @@ use std::alloc::Global;
 use wt_ast::{CondKind, Condition, Conditions, FromPart, Query};
 use wt_conjunct::Conjunct;
 use wt_from::{
-    enclosing, finished, inner_list, leaf_list, left_list, longer, places, push_member, push_test,
-    right_list, single, split,
+    enclosing, finished, join_list, leaf_list, longer, padded, places, push_member, push_test,
+    single, split,
 };
 use wt_joins::{Comma, CommaList, Part};
 use wt_query_plan::BuildError;
@@ -73,12 +73,12 @@ fn planned(alloc: Global, scope: &Scope, q: &Query, leaves: Leaves) -> Result<Bu
 
 /// Adds the items of a FROM clause, and gives the plans of its tables and derived tables.
 #[cycle(build)]
-fn gather(
+fn gather<'a>(
     alloc: Global,
-    schema: &Schema,
+    schema: &'a Schema,
     outer: &[&FromPart],
-    from: &FromPart,
-    out: &mut Sources,
+    from: &'a FromPart,
+    out: &mut Sources<'a>,
 ) -> Result<Leaves, BuildError>
     requires small { items_in_from (from_tree from.now) ≤ 256 }
     ensures { Tells (faults.from_fault schema.now.tables (outer_columns schema.now.tables outer.now) (aliases out.old.items.items) (from_tree from.now))
@@ -90,7 +90,7 @@ fn gather(
             alias,
             at,
             alias_at,
-        } => table_leaf(alloc, schema, name, alias, *at, *alias_at, out),
+        } => table_leaf(schema, name, alias, *at, *alias_at, out),
         FromPart::Derived {
             query,
             alias,
@@ -112,13 +112,13 @@ fn gather(
 
 /// The same for two operands.
 #[cycle(build)]
-fn gather_two(
+fn gather_two<'a>(
     alloc: Global,
-    schema: &Schema,
+    schema: &'a Schema,
     outer: &[&FromPart],
-    left: &FromPart,
-    right: &FromPart,
-    out: &mut Sources,
+    left: &'a FromPart,
+    right: &'a FromPart,
+    out: &mut Sources<'a>,
 ) -> Result<Leaves, BuildError>
     requires small { items_in_from (from_tree left.now) + items_in_from (from_tree right.now) ≤ 256 }
     ensures { Tells (both_faults schema.now.tables (outer_columns schema.now.tables outer.now) (aliases out.old.items.items) (from_tree left.now) (from_tree right.now))
@@ -152,27 +152,21 @@ fn listed(
             right,
             on,
             on_at,
-        } => {
-            let (one, other, conjuncts) = joined(alloc, scope, block, left, right, on, leaves)?;
-            inner_list(alloc, one, other, conjuncts, *on_at)
         }
-        FromPart::Left {
+        | FromPart::Left {
+            left,
+            right,
+            on,
+            on_at,
+        }
+        | FromPart::Right {
             left,
             right,
             on,
             on_at,
         } => {
             let (one, other, conjuncts) = joined(alloc, scope, block, left, right, on, leaves)?;
-            left_list(alloc, one, other, conjuncts, on, *on_at)
-        }
-        FromPart::Right {
-            left,
-            right,
-            on,
-            on_at,
-        } => {
-            let (one, other, conjuncts) = joined(alloc, scope, block, left, right, on, leaves)?;
-            right_list(alloc, one, other, conjuncts, on, *on_at)
+            join_list(alloc, padded(from), one, other, conjuncts, on, *on_at)
         }
         FromPart::Comma {
             left,

@@ -11,9 +11,7 @@ use Rattle.wt_query_plan.specs.Building.{planned, table_number}
 use Rattle.wt_query_plan.specs.Faults.{kinds_of}
 use Rattle.wt_resolve.specs.declared.lookup.ScopeItem.{ScopeItem}
 use Rattle.wt_resolve.specs.declared.lookup.Scope.{Scope}
-
-abbrev pub item : List ℕ → List (List ℕ) → ScopeItem
-item alias names = record { alias = alias; names = names }
+use Rattle.wt_resolve.specs.Items.{item}
 
 abbrev pub items_of : List Table → FromTree → List ScopeItem
 items_of S (table name alias at alias_at) = item (unwrap_or alias name) (column_names (columns_named S name)) ∷ []

@@ -9,5 +9,5 @@ mod scopes;
 
 pub use conditions::{enclosing, places, push_member, push_test};
 pub use finish::finished;
-pub use lists::{inner_list, leaf_list, left_list, longer, right_list, single};
+pub use lists::{join_list, leaf_list, longer, padded, single};
 pub use scopes::split;

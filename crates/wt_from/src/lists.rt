@@ -1,6 +1,6 @@
 //! Operands of joins and of comma lists.
 ghost use Rattle.std.specs.Prelude.{◌≡◌, ◌<◌, ◌+◌, ◌^◌, ◌++◌, ◌∷◌, [], None, length, IfOk};
-ghost use Rattle.wt_ast.specs.Tree.{condition_tree};
+ghost use Rattle.wt_ast.specs.Tree.{condition_tree, from_tree};
 ghost use Rattle.wt_plan.specs.Regular.{upto};
 ghost use Rattle.wt_plan.specs.Tree.{plan_tree};
 ghost use Rattle.wt_query_plan.specs.Faults as faults;
@@ -12,9 +12,10 @@ ghost use Rattle.wt_conjunct.specs.declared.stack.Side.TheVariants as sides;
 ghost use Rattle.wt_joins.specs.Parts.{operand, inner_operand, left_operand, right_operand, part_tree, part_trees, Within};
 ghost use Rattle.wt_joins.specs.Commas.{list_operand, list_width, AllWithin};
 ghost use Rattle.wt_clause.specs.Lists.{IsList};
+ghost use Rattle.wt_from.specs.Joins.{padded_by, joined_operand, join_fault};
 
 use std::alloc::Global;
-use wt_ast::Condition;
+use wt_ast::{Condition, FromPart};
 use wt_conjunct::{Conjunct, Side};
 use wt_joins::{
     Comma, CommaList, Part, inner_part, joined_list, left_part, offsets, outer_told, paired,
@@ -62,7 +63,7 @@ pub fn single(alloc: Global, list: CommaList) -> Result<Part, BuildError>
 }
 
 /// An inner join.
-pub fn inner_list(
+fn inner_list(
     alloc: Global,
     left: Part,
     right: Part,
@@ -95,7 +96,7 @@ fn told(
 }
 
 /// A LEFT JOIN.
-pub fn left_list(
+fn left_list(
     alloc: Global,
     left: Part,
     right: Part,
@@ -115,7 +116,7 @@ pub fn left_list(
 }
 
 /// A RIGHT JOIN.
-pub fn right_list(
+fn right_list(
     alloc: Global,
     left: Part,
     right: Part,
@@ -131,6 +132,42 @@ pub fn right_list(
     told(alloc, Side::Left, left.places.len(), &conjuncts, on, at)?;
     let part = right_part(alloc, left, right, conjuncts)?;
     Ok(alone(alloc, part))
+}
+
+/// The operand that a join pads with NULLs.
+pub fn padded(join: &FromPart) -> Option<Side>
+    ensures { result ≡ padded_by (from_tree join.now) }
+{
+    match join {
+        FromPart::Left { .. } => Some(Side::Right),
+        FromPart::Right { .. } => Some(Side::Left),
+        FromPart::Inner { .. } => None,
+        FromPart::Comma { .. } | FromPart::Table { .. } | FromPart::Derived { .. } => None,
+    }
+}
+
+/// A join, by the operand that it pads with NULLs.
+pub fn join_list(
+    alloc: Global,
+    padded: Option<Side>,
+    left: Part,
+    right: Part,
+    conjuncts: Vec<Conjunct>,
+    on: &Condition,
+    at: u32,
+) -> Result<CommaList, BuildError>
+    requires narrow { length left.places.items + length right.places.items < 2 ^ 32 }
+    requires left { Within left.places.items }
+    requires right { Within right.places.items }
+    requires many { length (conjunct_places (condition_tree on.now)) ≡ length (conjunct_trees conjuncts.items) }
+    ensures { Tells (join_fault padded (length left.places.items) (conjunct_trees conjuncts.items) (conjunct_places (condition_tree on.now)) at)
+        (IsList (joined_operand padded (conjunct_trees conjuncts.items) (part_tree left) (part_tree right)) [] []) result }
+{
+    match padded {
+        None => inner_list(alloc, left, right, conjuncts, at),
+        Some(Side::Right) => left_list(alloc, left, right, conjuncts, on, at),
+        Some(Side::Left) => right_list(alloc, left, right, conjuncts, on, at),
+    }
 }
 
 /// A list with one operand more behind a comma.

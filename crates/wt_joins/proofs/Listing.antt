@@ -5,7 +5,14 @@ use Rattle.wt_query_plan.specs.Building as spec
 use Rattle.wt_query_plan.specs.Building.{Conjunct}
 use Rattle.wt_plan.proofs.Upto.{length_map}
 use Rattle.wt_joins.specs.Parts.{PartTree, onward}
-use Rattle.wt_joins.specs.Commas.{comma_operand, list_operand, list_width}
+use Rattle.wt_joins.specs.declared.commas.Comma.{Comma}
+use Rattle.wt_joins.specs.Commas.{free_at, comma_operand, list_operand, list_width}
+
+-- where there is no comma, no conjunct links one
+pub all_free : (cs : List Comma) (js : List Conjunct) → length cs ≡ 0 → free_at cs js ≡ js
+all_free (c ∷ cs) js e = absurd (let bad : ⊥ = omega (arith, e) in bad)
+all_free [] [] e = refl
+all_free [] (j ∷ js) e = ap (λ l. j ∷ l) (all_free [] js e)
 
 pub no_pair : (b : Bool) {o : Option (ℕ × ℕ)} → o ≡ None → None ≡ cond b o None
 no_pair true e = sym e

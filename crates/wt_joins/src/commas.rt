@@ -102,8 +102,8 @@ fn push_free(
     Ok(())
 }
 
-/// The conjuncts that link no comma.
-pub fn freed(
+/// The conjuncts that link none of these commas.
+fn unlinked(
     alloc: Global,
     commas: &[Comma],
     conjuncts: Vec<Conjunct>,
@@ -115,6 +115,21 @@ pub fn freed(
         push_free(commas, conjunct, &mut free)?;
     }
     Ok(free)
+}
+
+/// The conjuncts that link no comma: all of them where there is none.
+pub fn freed(
+    alloc: Global,
+    commas: &[Comma],
+    conjuncts: Vec<Conjunct>,
+) -> Result<Vec<Conjunct>, WantOfMemory>
+    ensures { IfOk result (λ js. conjunct_trees js.items ≡ free_at commas.now (conjunct_trees conjuncts.items)) }
+{
+    if commas.is_empty() {
+        Ok(conjuncts)
+    } else {
+        unlinked(alloc, commas, conjuncts)
+    }
 }
 
 /// The pairs of a comma.
@@ -158,8 +173,8 @@ fn comma_part(
     Ok(Part { plan, places })
 }
 
-/// The operands of a list, joined.
-pub fn joined_list(
+/// An operand and those behind it, joined one after the other.
+fn joined_onto(
     alloc: Global,
     first: Part,
     others: Vec<Part>,
@@ -174,4 +189,22 @@ pub fn joined_list(
         part = comma_part(alloc, part, other, conjuncts)?;
     }
     Ok(part)
+}
+
+/// The operands of a list, joined: the first one where there is no other.
+pub fn joined_list(
+    alloc: Global,
+    first: Part,
+    others: Vec<Part>,
+    conjuncts: &[Conjunct],
+) -> Result<Part, BuildError>
+    requires narrow { list_width (part_tree first) (part_trees others.items) < 2 ^ 32 }
+    requires within { AllWithin (part_trees others.items) }
+    ensures { Tells None (λ p. part_tree p ≡ list_operand (conjunct_trees conjuncts.now) (part_tree first) (part_trees others.items)) result }
+{
+    if others.is_empty() {
+        Ok(first)
+    } else {
+        joined_onto(alloc, first, others, conjuncts)
+    }
 }

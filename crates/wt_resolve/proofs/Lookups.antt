@@ -1,7 +1,10 @@
 -- Names among the columns of FROM items, item by item.
-use Rattle.std.proofs.Common.{◌≡◌, ℕ, zero, suc, ◌+◌, ◌-◌, ◌^◌, ◌<◌, ◌≤◌, Bool, true, false, ◌&&◌, cond, List, [], ◌∷◌, ◌++◌, map, length, length-append, filter, Option, refl, sym, ap, ◌∙◌, arith}
-use Rattle.std.specs.Prelude.{min, flat_map}
+use Rattle.std.proofs.Common.{◌≡◌, ℕ, suc, ◌+◌, ◌-◌, ◌^◌, ◌<◌, ◌≤◌, Bool, true, false, cond, List, [], ◌∷◌, ◌++◌, map, length, length-append, filter, drop, Some, slice_get, refl, ap, ◌∙◌, arith}
+use Rattle.std.specs.Prelude.{min}
 use Rattle.std.specs.Str.{bytes_eq}
+use Rattle.std.specs.Option.{option_map}
+use Rattle.std.proofs.lemmas.List.{drop_more}
+use Rattle.std.proofs.lemmas.Option.{slice_get-map, slice_get_within, get_or_from_slice_get}
 use Rattle.wt_ast.specs.declared.tree.ColumnName.{ColumnName}
 use Rattle.wt_query_rows.specs.declared.scope.ScopeColumn.{ScopeColumn}
 use Rattle.wt_query_rows.specs.Scopes.{in_scope, alias_fits, fits}
@@ -9,6 +12,16 @@ use Rattle.wt_query_plan.specs.Building.{place_of}
 use Rattle.wt_resolve.specs.declared.lookup.ScopeItem.{ScopeItem}
 use Rattle.wt_resolve.specs.Scoping.{item_columns, columns_of, named_at}
 use Rattle.wt_plan.proofs.Upto.{length_map}
+use Rattle.wt_schema.specs.declared.schema.Column.{Column}
+use Rattle.wt_query_rows.specs.Scopes.{column_names}
+
+-- a list from one of its elements on
+pub get_drop : {X : Type 0} (xs : List X) (i : ℕ) (x : X) → slice_get xs i ≡ Some x → drop i xs ≡ x ∷ drop (i + 1) xs
+get_drop xs i x e = drop_more xs i x (slice_get_within xs i x e) ∙ ap (λ y. y ∷ drop (i + 1) xs) (get_or_from_slice_get xs i x x e)
+
+-- the name of a table's column
+pub name_at : (columns : List Column) (i : ℕ) (c : Column) → slice_get columns i ≡ Some c → slice_get (column_names columns) i ≡ Some c.name
+name_at columns i c e = slice_get-map (λ (d : Column). d.name) columns i ∙ ap (option_map (λ (d : Column). d.name)) e
 
 filter_length : {X : Type 0} (p : X → Bool) (xs ys : List X) → length (filter p (xs ++ ys)) ≡ length (filter p xs) + length (filter p ys)
 filter_length p [] ys = omega arith

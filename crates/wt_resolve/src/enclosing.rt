@@ -13,7 +13,7 @@ use wt_schema::{Column, Schema};
 use wt_value::{Name, Names, WantOfMemory};
 
 /// The columns of the table of a name, none where the schema has no such table.
-pub fn columns_named<'a>(schema: &'a Schema, name: &Name) -> &'a [Column]
+fn columns_named<'a>(schema: &'a Schema, name: &Name) -> &'a [Column]
     ensures { result.now ≡ scopes.columns_named schema.now.tables name.now }
 {
     let mut tables = schema.tables.as_slice();
@@ -44,7 +44,7 @@ fn push_columns(
 }
 
 /// The names of a table's columns.
-pub fn column_names(alloc: Global, columns: &[Column]) -> Result<Names, WantOfMemory>
+fn column_names(alloc: Global, columns: &[Column]) -> Result<Names, WantOfMemory>
     ensures { IfOk result (λ names. names ≡ scopes.column_names columns.now) }
 {
     let mut names = Names::new(alloc);

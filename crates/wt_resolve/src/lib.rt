@@ -6,5 +6,5 @@ mod enclosing;
 mod lookup;
 
 pub use conditions::{kind_at, predicate, same_kind};
-pub use enclosing::{alias_outside, column_names, columns_named, seen_outside};
+pub use enclosing::{alias_outside, seen_outside};
 pub use lookup::{Scope, ScopeItem, column};

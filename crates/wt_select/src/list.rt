@@ -63,8 +63,8 @@ fn push_if_under(
     requires { first + length item.now.names < 2 ^ 32 }
     ensures { OnOk result (out.new.items ≡ out.old.items ++ map (λ k. first + k) (if bytes_eq alias.now item.now.alias then regular.upto (length item.now.names) else [])) }
 {
-    if *alias == item.alias {
-        push_range(first, item.names.len() as u32, out)?;
+    if item.has_alias(alias) {
+        push_range(first, item.width() as u32, out)?;
     }
     Ok(())
 }
@@ -79,7 +79,7 @@ fn places_under(alloc: Global, items: &[ScopeItem], alias: &Name) -> Result<Vec<
     let mut i = 0;
     'items: while i < items.len() {
         let item = &items[i];
-        let count = item.names.len() as u32;
+        let count = item.width() as u32;
         push_if_under(alias, item, first, &mut places)?;
         first += count;
         i += 1;
@@ -122,22 +122,12 @@ fn places_of_alias(
     Err(BuildError::Refused(fault, at))
 }
 
-/// Adds the names.
-fn push_copies(names: &[Name], out: &mut Vec<Name>) -> Result<(), WantOfMemory>
-    ensures { OnOk result (out.new.items ≡ out.old.items ++ names.now) }
-{
-    for name in names {
-        out.push(name.clone()?)?;
-    }
-    Ok(())
-}
-
 /// Adds the names of all columns.
 fn push_all(items: &[ScopeItem], out: &mut Vec<Name>) -> Result<(), WantOfMemory>
     ensures { OnOk result (out.new.items ≡ out.old.items ++ map (λ (s : ScopeColumn). s.name) (columns_of items.now)) }
 {
     for item in items {
-        push_copies(item.names.as_slice(), out)?;
+        item.push_names(out)?;
     }
     Ok(())
 }
@@ -147,8 +137,8 @@ fn push_under(items: &[ScopeItem], alias: &Name, out: &mut Vec<Name>) -> Result<
     ensures { OnOk result (out.new.items ≡ out.old.items ++ map (λ (s : ScopeColumn). s.name) (filter (scopes.is_of alias.now) (columns_of items.now))) }
 {
     for item in items {
-        if *alias == item.alias {
-            push_copies(item.names.as_slice(), out)?;
+        if item.has_alias(alias) {
+            item.push_names(out)?;
         }
     }
     Ok(())

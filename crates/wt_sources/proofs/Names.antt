@@ -1,11 +1,14 @@
 -- Tables by name, and aliases of items.
-use Rattle.std.proofs.Common.{◌≡◌, ℕ, suc, ◌+◌, nat_lt, Bool, true, false, ◌||◌, not, cond, List, [], ◌∷◌, length, Some, None, refl, sym, ap, ◌∙◌, arith}
+use Rattle.std.proofs.Common.{◌≡◌, ℕ, suc, ◌+◌, nat_lt, Bool, true, false, ◌||◌, not, cond, List, [], ◌∷◌, length, slice_get, Some, None, refl, sym, ap, ◌∙◌, arith}
 use Rattle.std.proofs.lemmas.Bool.{ltb-true, ltb-false, lt-ltb, le-ltb}
 use Rattle.std.specs.List.{list_any, position_or_len}
+use Rattle.std.specs.Option.{option_map}
 use Rattle.std.specs.Str.{bytes_eq}
+use Rattle.wt_schema.specs.declared.schema.Column.{Column}
 use Rattle.wt_schema.specs.declared.schema.Table.{Table}
 use Rattle.wt_schema.specs.Lookup as schema
 use Rattle.wt_resolve.specs.declared.lookup.ScopeItem.{ScopeItem}
+use Rattle.wt_query_rows.specs.Scopes.{columns_named}
 use Rattle.wt_query_plan.specs.Building.{table_number}
 use Rattle.wt_clause.specs.Items.{aliases}
 
@@ -55,7 +58,22 @@ known_number S name n e = (found (known S name) n (table_number S name) (sym (lo
 pub unknown_any : (S : List Table) (name : List ℕ) → schema.table_number S name ≡ None → known S name ≡ false
 unknown_any S name e = lost (known S name) (table_number S name) (sym (looked_up S name) ∙ e)
 
-pub ruleset tables = (known_any, known_number, unknown_any)
+abbrev columns_of : Table → List Column
+columns_of t = t.columns
+
+columns_found : (S : List Table) (name : List ℕ) (columns : List Column) → option_map columns_of (slice_get S (table_number S name)) ≡ Some columns → columns ≡ columns_named S name
+columns_found [] name columns e = absurd cc
+columns_found (t ∷ S) name columns e = here (bytes_eq t.name name) (columns_found S name columns) e
+  where
+    here : (b : Bool) → (option_map columns_of (slice_get S (table_number S name)) ≡ Some columns → columns ≡ columns_named S name)
+        → option_map columns_of (slice_get (t ∷ S) (cond b 0 (suc (table_number S name)))) ≡ Some columns → columns ≡ cond b t.columns (columns_named S name)
+    here true f e = cc
+    here false f e = f e
+
+pub known_columns : (S : List Table) (name : List ℕ) (n : ℕ) (columns : List Column) → schema.table_number S name ≡ Some n → option_map (λ (t : Table). t.columns) (slice_get S n) ≡ Some columns → columns ≡ columns_named S name
+known_columns S name n columns e f = columns_found S name columns (ap (λ k. option_map columns_of (slice_get S k)) (sym (known_number S name n e)) ∙ f)
+
+pub ruleset tables = (known_any, known_number, known_columns, unknown_any)
 
 pub has_alias_is : (alias : List ℕ) (items : List ScopeItem) → list_any (λ (i : ScopeItem). bytes_eq alias i.alias) items ≡ list_any (bytes_eq alias) (aliases items)
 has_alias_is alias [] = refl

@@ -1,7 +1,7 @@
 //! What a FROM clause brings, table by table.
-ghost use Rattle.std.specs.Prelude.{◌≡◌, ◌++◌, ◌∷◌, [], not, nat_eq, map, length, IfOk, OnOk};
+ghost use Rattle.std.specs.Prelude.{◌≡◌, ◌<◌, ◌++◌, ◌∷◌, [], not, nat_eq, map, length, slice_get, Some, IfOk, OnOk};
 ghost use Rattle.std.specs.List.{list_any};
-ghost use Rattle.std.specs.Option.{unwrap_or};
+ghost use Rattle.std.specs.Option.{option_map, unwrap_or};
 ghost use Rattle.std.specs.Str.{bytes_eq};
 ghost use Rattle.wt_schema.specs.declared.schema.Column as declared;
 ghost use Rattle.wt_schema.specs.declared.schema.Table.{Table};
@@ -14,14 +14,15 @@ ghost use Rattle.wt_query_plan.specs.Faults.{first_of, fault_if};
 ghost use Rattle.wt_query_plan.specs.declared.fault.BuildFault.TheVariants as kinds;
 ghost use Rattle.wt_query_plan.specs.Telling.{Tells};
 ghost use Rattle.wt_resolve.specs.declared.lookup.ScopeItem.{ScopeItem};
-ghost use Rattle.wt_clause.specs.Items.{item, aliases, leaf};
+ghost use Rattle.wt_resolve.specs.Items.{item};
+ghost use Rattle.wt_clause.specs.Items.{aliases, leaf};
 ghost use Rattle.wt_sources.specs.Sources.{leaves_tree, Adds};
 
 use crate::leaves::Leaves;
 use std::alloc::Global;
 use wt_plan::Plan;
 use wt_query_plan::{BuildError, BuildFault};
-use wt_resolve::{ScopeItem, column_names, columns_named};
+use wt_resolve::ScopeItem;
 use wt_schema::{ColKind, Column, Schema};
 use wt_value::{Name, Names, WantOfMemory};
 
@@ -35,14 +36,14 @@ pub struct Built {
 
 /// The items of a FROM clause in the order of the text, and the kinds of their columns.
 #[derive(Drop)]
-pub struct Sources {
-    pub items: Vec<ScopeItem>,
+pub struct Sources<'a> {
+    pub items: Vec<ScopeItem<'a>>,
     pub kinds: Vec<ColKind>,
 }
 
-impl Sources {
+impl<'a> Sources<'a> {
     /// No items.
-    pub fn new(alloc: Global) -> Sources
+    pub fn new(alloc: Global) -> Sources<'a>
         ensures items { result.items.items ≡ [] }
         ensures kinds { result.kinds.items ≡ [] }
     {
@@ -53,13 +54,26 @@ impl Sources {
     }
 }
 
-/// The number of the table of a name.
+/// The columns of the table of a number.
+fn columns_at(schema: &Schema, number: usize) -> &[Column]
+    requires { number < length schema.now.tables }
+    ensures { option_map (λ (t : Table). t.columns) (slice_get schema.now.tables number) ≡ Some result.now }
+{
+    schema.tables.as_slice()[number].columns.as_slice()
+}
+
+/// The number of the table of a name, and its columns.
 #[tactic(auto, using(crate::proofs::Names::tables))]
-fn known_table(schema: &Schema, name: &Name, at: u32) -> Result<u32, BuildError>
-    ensures { Tells (fault_if (not (list_any (λ (t : Table). bytes_eq t.name name.now) schema.now.tables)) kinds.UnknownTable at) (λ n. n ≡ spec.table_number schema.now.tables name.now) result }
+fn known_table<'a>(
+    schema: &'a Schema,
+    name: &Name,
+    at: u32,
+) -> Result<(u32, &'a [Column]), BuildError>
+    ensures { Tells (fault_if (not (list_any (λ (t : Table). bytes_eq t.name name.now) schema.now.tables)) kinds.UnknownTable at)
+        (λ found. (found.0 ≡ spec.table_number schema.now.tables name.now) × (found.1.now ≡ scopes.columns_named schema.now.tables name.now)) result }
 {
     match schema.table_number(name) {
-        Some(number) => Ok(number as u32),
+        Some(number) => Ok((number as u32, columns_at(schema, number))),
         None => Err(BuildError::Refused(BuildFault::UnknownTable, at)),
     }
 }
@@ -67,7 +81,7 @@ fn known_table(schema: &Schema, name: &Name, at: u32) -> Result<u32, BuildError>
 fn has_alias(items: &[ScopeItem], alias: &Name) -> bool
     ensures { result ≡ list_any (λ (i : ScopeItem). bytes_eq alias.now i.alias) items.now }
 {
-    items.iter().any(|item| *alias == item.alias)
+    items.iter().any(|item| item.has_alias(alias))
 }
 
 /// Refuses an alias that an item has.
@@ -101,38 +115,33 @@ fn push_kinds(columns: &[Column], out: &mut Vec<ColKind>) -> Result<(), WantOfMe
 }
 
 /// Adds a table.
-fn push_table(
-    alloc: Global,
-    alias: &Name,
-    columns: &[Column],
-    out: &mut Sources,
+fn push_table<'a>(
+    alias: &'a Name,
+    columns: &'a [Column],
+    out: &mut Sources<'a>,
 ) -> Result<(), WantOfMemory>
     ensures { OnOk result (Adds (item alias.now (scopes.column_names columns.now) ∷ []) (map (λ (c : declared.Column). c.kind) columns.now) out.old out.new) }
 {
-    let names = column_names(alloc, columns)?;
-    let alias = alias.clone()?;
-    out.items.push(ScopeItem { alias, names })?;
+    out.items.push(ScopeItem::table(alias, columns))?;
     push_kinds(columns, &mut out.kinds)
 }
 
 /// A table in FROM.
-pub fn table_leaf(
-    alloc: Global,
-    schema: &Schema,
-    name: &Name,
-    alias: &Option<Name>,
+pub fn table_leaf<'a>(
+    schema: &'a Schema,
+    name: &'a Name,
+    alias: &'a Option<Name>,
     at: u32,
     alias_at: u32,
-    out: &mut Sources,
+    out: &mut Sources<'a>,
 ) -> Result<Leaves, BuildError>
     ensures { Tells (first_of (fault_if (not (list_any (λ (t : Table). bytes_eq t.name name.now) schema.now.tables)) kinds.UnknownTable at) (faults.alias_fault (aliases out.old.items.items) (unwrap_or alias.now name.now) alias_at))
         (λ leaves. (leaves_tree leaves ≡ leaf (plans.table (spec.table_number schema.now.tables name.now) (length (scopes.columns_named schema.now.tables name.now)))) × Adds (item (unwrap_or alias.now name.now) (scopes.column_names (scopes.columns_named schema.now.tables name.now)) ∷ []) (map (λ (c : declared.Column). c.kind) (scopes.columns_named schema.now.tables name.now)) out.old out.new) result }
 {
-    let number = known_table(schema, name, at)?;
+    let (number, columns) = known_table(schema, name, at)?;
     let alias = alias_of(name, alias);
     alias_told(&out.items, alias, alias_at)?;
-    let columns = columns_named(schema, name);
-    push_table(alloc, alias, columns, out)?;
+    push_table(alias, columns, out)?;
     Ok(Leaves::One(Plan::Table(number, columns.len() as u32)))
 }
 
@@ -152,27 +161,26 @@ fn derived_names(columns: &Option<Names>, names: Vec<Name>, at: u32) -> Result<N
 }
 
 /// Adds a derived table.
-fn push_derived(
-    alias: &Name,
+fn push_derived<'a>(
+    alias: &'a Name,
     names: Names,
     kinds: &[ColKind],
-    out: &mut Sources,
+    out: &mut Sources<'a>,
 ) -> Result<(), WantOfMemory>
     ensures { OnOk result (Adds (item alias.now names ∷ []) kinds.now out.old out.new) }
 {
-    let alias = alias.clone()?;
-    out.items.push(ScopeItem { alias, names })?;
+    out.items.push(ScopeItem::derived(alias, names))?;
     out.kinds.extend_from_slice(kinds)?;
     Ok(())
 }
 
 /// A derived table.
-pub fn derived_leaf(
+pub fn derived_leaf<'a>(
     built: Built,
-    alias: &Name,
+    alias: &'a Name,
     columns: &Option<Names>,
     at: u32,
-    out: &mut Sources,
+    out: &mut Sources<'a>,
 ) -> Result<Leaves, BuildError>
     ensures { Tells (first_of (fault_if (not (nat_eq (length (unwrap_or columns.now built.names.items)) (length built.names.items))) kinds.ColumnListWidth at) (faults.alias_fault (aliases out.old.items.items) alias.now at))
         (λ leaves. (leaves_tree leaves ≡ leaf (plan_tree built.plan)) × Adds (item alias.now (unwrap_or columns.now built.names.items) ∷ []) built.kinds.items out.old out.new) result }

@@ -6,7 +6,7 @@ use Rattle.wt_ast.specs.declared.tree.Query.{Query, out-Query}
 use Rattle.wt_query_rows.specs.Scopes.{scope_of}
 use Rattle.wt_query_plan.specs.Building as spec
 use Rattle.wt_query_plan.specs.Faults as faults
-use Rattle.wt_query_plan.specs.Faults.{first_of}
+use Rattle.wt_query_plan.specs.Faults.{first_of, conjunct_places}
 use Rattle.wt_query_plan.specs.Telling.{Tells}
 use Rattle.wt_query_plan.proofs.Faultless.{neither, as_many}
 use Rattle.wt_query_bounds.proofs.Clauses.{even_all}
@@ -22,12 +22,12 @@ use Rattle.wt_clause.specs.Items.{aliases, items_of, leaves_of, fork}
 use Rattle.wt_clause.specs.Lists.{from_operand, first_operand, later_operands, commas_of, IsList}
 use Rattle.wt_clause.specs.Walking.{from_of, Ready}
 use Rattle.wt_clause.proofs.Finishing.{list_narrow, list_within}
-use Rattle.wt_clause.proofs.Joined as joined
 use Rattle.wt_clause.proofs.Joined.{part_wide, part_within}
-use Rattle.wt_clause.proofs.Walks.{seen_inside, seen_narrow, seen_width, inner_halves, left_halves, right_halves, comma_halves}
+use Rattle.wt_clause.proofs.Walks.{seen_inside, seen_narrow, seen_width, comma_halves}
+use Rattle.wt_from.specs.Joins.{padded_by, joined_operand, join_fault}
 use Rattle.wt_from.proofs.Telling.{way_out, told_then}
 use Rattle.wt_build.specs.Walk.{on_fault}
-use Rattle.wt_build.proofs.Steps.{told_as, counted_by, few_on, from_is, few_two, one_of_four, added_twice, next_fault, few_in_filter, filter_some, ready_clause, both_narrow, on_same, on_is, single_is, longer_is, member_same}
+use Rattle.wt_build.proofs.Steps.{told_as, counted_by, each_as, few_and_halves, join_told, from_is, few_two, one_of_three, one_of_four, added_twice, next_fault, few_in_filter, filter_some, ready_clause, both_narrow, on_same, on_is, single_is, longer_is, member_same}
 use Rattle.wt_build.proofs.build.+build.Goals as goal
 
 pub built_query-planned-requires : goal.built_query-planned-requires
@@ -135,65 +135,27 @@ kept-returns-in-Some t c =
 
 pub listed-joined-requires : goal.listed-joined-requires
 listed-joined-requires t c =
-    let l = from_tree c.in-Inner.left.value in
-    let r = from_tree c.in-Inner.right.value in
-    let ready = subst (λ f. Ready f c.args.scope.now (leaves_tree c.args.leaves)) (ap from_tree c.in-Inner.is) c.requires.ready in
-    let few = few_on l r (condition_tree c.in-Inner.on) ready.small in
-    let both = inner_halves c.args.scope.now l r (condition_tree c.in-Inner.on) c.in-Inner.on_at (leaves_tree c.args.leaves) ready in
-    search (rules, arith, from_parts.the_lemmas, few, both)
+    let on = condition_tree c.in-Inner.on in
+    let both = few_and_halves c.args.scope.now (from_tree c.args.from.now) (from_tree c.in-Inner.left.value) (from_tree c.in-Inner.right.value) on c.in-Inner.on_at (leaves_tree c.args.leaves) (each_as from_tree c.in-Inner.is) c.requires.ready in
+    search (rules, arith, from_parts.the_lemmas, both)
 
-pub listed-inner_list-requires-clause-narrow : goal.listed-inner_list-requires-clause-narrow
-listed-inner_list-requires-clause-narrow t c =
-    let told = c.in_ok-one-in-Inner.ensures in
-    let ready = subst (λ f. Ready f c.args.scope.now (leaves_tree c.args.leaves)) (ap from_tree c.in-Inner.is) c.requires.ready in
-    let both = inner_halves c.args.scope.now (from_tree c.in-Inner.left.value) (from_tree c.in-Inner.right.value) (condition_tree c.in-Inner.on) c.in-Inner.on_at (leaves_tree c.args.leaves) ready in
-    part_wide c.args.scope.now.schema.now.tables (from_tree c.in-Inner.left.value) (from_tree c.in-Inner.right.value) (part_tree c.in_ok-one-in-Inner.one) (part_tree c.in_ok-one-in-Inner.other) (search rules) (search rules) both.narrow
+pub listed-join_list-requires-clause-narrow : goal.listed-join_list-requires-clause-narrow
+listed-join_list-requires-clause-narrow t c =
+    let both = few_and_halves c.args.scope.now (from_tree c.args.from.now) (from_tree c.in-Inner.left.value) (from_tree c.in-Inner.right.value) (condition_tree c.in-Inner.on) c.in-Inner.on_at (leaves_tree c.args.leaves) (each_as from_tree c.in-Inner.is) c.requires.ready in
+    part_wide c.args.scope.now.schema.now.tables (from_tree c.in-Inner.left.value) (from_tree c.in-Inner.right.value) (part_tree c.in_ok-one-in-Inner.one) (part_tree c.in_ok-one-in-Inner.other) (search rules) (search rules) both.1.narrow
 
-pub listed-inner_list-requires-clause-within : goal.listed-inner_list-requires-clause-within
-listed-inner_list-requires-clause-within t c = part_within c.args.scope.now.schema.now.tables (from_tree c.in-Inner.right.value) (part_tree c.in_ok-one-in-Inner.other) (search rules)
+pub listed-join_list-requires-clause-left : goal.listed-join_list-requires-clause-left
+listed-join_list-requires-clause-left t c = part_within c.args.scope.now.schema.now.tables (from_tree c.in-Inner.left.value) (part_tree c.in_ok-one-in-Inner.one) (search rules)
 
-pub listed-joined-requires-in-Left : goal.listed-joined-requires-in-Left
-listed-joined-requires-in-Left t c =
-    let l = from_tree c.in-Left.left.value in
-    let r = from_tree c.in-Left.right.value in
-    let ready = subst (λ f. Ready f c.args.scope.now (leaves_tree c.args.leaves)) (ap from_tree c.in-Left.is) c.requires.ready in
-    let few = few_on l r (condition_tree c.in-Left.on) ready.small in
-    let both = left_halves c.args.scope.now l r (condition_tree c.in-Left.on) c.in-Left.on_at (leaves_tree c.args.leaves) ready in
-    search (rules, arith, from_parts.the_lemmas, few, both)
+pub listed-join_list-requires-clause-right : goal.listed-join_list-requires-clause-right
+listed-join_list-requires-clause-right t c = part_within c.args.scope.now.schema.now.tables (from_tree c.in-Inner.right.value) (part_tree c.in_ok-one-in-Inner.other) (search rules)
 
-pub listed-left_list-requires-clause-narrow : goal.listed-left_list-requires-clause-narrow
-listed-left_list-requires-clause-narrow t c =
-    let ready = subst (λ f. Ready f c.args.scope.now (leaves_tree c.args.leaves)) (ap from_tree c.in-Left.is) c.requires.ready in
-    let both = left_halves c.args.scope.now (from_tree c.in-Left.left.value) (from_tree c.in-Left.right.value) (condition_tree c.in-Left.on) c.in-Left.on_at (leaves_tree c.args.leaves) ready in
-    part_wide c.args.scope.now.schema.now.tables (from_tree c.in-Left.left.value) (from_tree c.in-Left.right.value) (part_tree c.in_ok-one-in-Left.one) (part_tree c.in_ok-one-in-Left.other) (search rules) (search rules) both.narrow
-
-pub listed-left_list-requires-clause-within : goal.listed-left_list-requires-clause-within
-listed-left_list-requires-clause-within t c = part_within c.args.scope.now.schema.now.tables (from_tree c.in-Left.right.value) (part_tree c.in_ok-one-in-Left.other) (search rules)
-
-pub listed-left_list-requires-clause-many : goal.listed-left_list-requires-clause-many
-listed-left_list-requires-clause-many t c =
+pub listed-join_list-requires-clause-many : goal.listed-join_list-requires-clause-many
+listed-join_list-requires-clause-many t c =
     let S = c.args.scope.now.schema.now.tables in
-    let scope = scope_of S (from_tree c.in-Left.left.value) ++ scope_of S (from_tree c.in-Left.right.value) in
-    let js : conjunct_trees c.in_ok-one-in-Left.conjuncts.items ≡ spec.conjuncts S scope (condition_tree c.in-Left.on) = search rules in
-    as_many S scope (condition_tree c.in-Left.on) ∙ ap length (sym js)
-
-pub listed-joined-requires-in-Right : goal.listed-joined-requires-in-Right
-listed-joined-requires-in-Right t c =
-    let l = from_tree c.in-Right.left.value in
-    let r = from_tree c.in-Right.right.value in
-    let ready = subst (λ f. Ready f c.args.scope.now (leaves_tree c.args.leaves)) (ap from_tree c.in-Right.is) c.requires.ready in
-    let few = few_on l r (condition_tree c.in-Right.on) ready.small in
-    let both = right_halves c.args.scope.now l r (condition_tree c.in-Right.on) c.in-Right.on_at (leaves_tree c.args.leaves) ready in
-    search (rules, arith, from_parts.the_lemmas, few, both)
-
-pub listed-right_list-requires-clause-narrow : goal.listed-right_list-requires-clause-narrow
-listed-right_list-requires-clause-narrow t c =
-    let ready = subst (λ f. Ready f c.args.scope.now (leaves_tree c.args.leaves)) (ap from_tree c.in-Right.is) c.requires.ready in
-    let both = right_halves c.args.scope.now (from_tree c.in-Right.left.value) (from_tree c.in-Right.right.value) (condition_tree c.in-Right.on) c.in-Right.on_at (leaves_tree c.args.leaves) ready in
-    part_wide c.args.scope.now.schema.now.tables (from_tree c.in-Right.left.value) (from_tree c.in-Right.right.value) (part_tree c.in_ok-one-in-Right.one) (part_tree c.in_ok-one-in-Right.other) (search rules) (search rules) both.narrow
-
-pub listed-right_list-requires-clause-within : goal.listed-right_list-requires-clause-within
-listed-right_list-requires-clause-within t c = part_within c.args.scope.now.schema.now.tables (from_tree c.in-Right.left.value) (part_tree c.in_ok-one-in-Right.one) (search rules)
+    let scope = scope_of S (from_tree c.in-Inner.left.value) ++ scope_of S (from_tree c.in-Inner.right.value) in
+    let js : conjunct_trees c.in_ok-one-in-Inner.conjuncts.items ≡ spec.conjuncts S scope (condition_tree c.in-Inner.on) = search rules in
+    as_many S scope (condition_tree c.in-Inner.on) ∙ ap length (sym js)
 
 pub listed-operands-requires : goal.listed-operands-requires
 listed-operands-requires t c =
@@ -216,6 +178,13 @@ listed-overflow_cast-comma-in-Comma t c =
     let wide = seen_width c.args.scope.now (from_tree c.args.from.now) c.requires.ready.seen in
     omega (arith, wide, c.requires.ready.seen.narrow)
 
+pub listed-returns-in_err-one-in-Inner : goal.listed-returns-in_err-one-in-Inner
+listed-returns-in_err-one-in-Inner t c =
+    one_of_three c.in-Inner.is
+    (λ e. let tree = ap from_tree e in search (rules, arith, from_parts.the_lemmas, e, tree))
+    (λ e. let tree = ap from_tree e in search (rules, arith, from_parts.the_lemmas, e, tree))
+    (λ e. let tree = ap from_tree e in search (rules, arith, from_parts.the_lemmas, e, tree))
+
 pub listed-returns-in_ok-one-in-Inner : goal.listed-returns-in_ok-one-in-Inner
 listed-returns-in_ok-one-in-Inner t c =
     let scope = c.args.scope.now in
@@ -225,38 +194,11 @@ listed-returns-in_ok-one-in-Inner t c =
     let on = condition_tree c.in-Inner.on in
     let block = scope_of S (from_tree c.args.block.now) in
     let none : on_fault S (outside scope) block l r on ≡ None = search rules in
+    let side : c.padded.result ≡ padded_by (from_tree c.args.from.now) = search rules in
     let both = neither _ _ none in
-    subst (λ f. Tells (faults.joins_fault S (outside scope) block f) (IsList (first_operand S f) (later_operands S f) (commas_of S f)) c.inner_list.result) (sym (ap from_tree c.in-Inner.is))
-    (joined.inner_told S (outside scope) block (scope_of S l ++ scope_of S r) (faults.kinds_of S l ++ faults.kinds_of S r) l r on c.in-Inner.on_at (conjunct_trees c.in_ok-one-in-Inner.conjuncts.items) (part_tree c.in_ok-one-in-Inner.one) (part_tree c.in_ok-one-in-Inner.other) c.inner_list.result
-    both.0 both.1 refl refl (search rules) (search rules) (search rules) c.inner_list.ensures)
-
-pub listed-returns-in_ok-one-in-Left : goal.listed-returns-in_ok-one-in-Left
-listed-returns-in_ok-one-in-Left t c =
-    let scope = c.args.scope.now in
-    let S = scope.schema.now.tables in
-    let l = from_tree c.in-Left.left.value in
-    let r = from_tree c.in-Left.right.value in
-    let on = condition_tree c.in-Left.on in
-    let block = scope_of S (from_tree c.args.block.now) in
-    let none : on_fault S (outside scope) block l r on ≡ None = search rules in
-    let both = neither _ _ none in
-    subst (λ f. Tells (faults.joins_fault S (outside scope) block f) (IsList (first_operand S f) (later_operands S f) (commas_of S f)) c.left_list.result) (sym (ap from_tree c.in-Left.is))
-    (joined.left_told S (outside scope) block (scope_of S l ++ scope_of S r) (faults.kinds_of S l ++ faults.kinds_of S r) l r on c.in-Left.on_at (conjunct_trees c.in_ok-one-in-Left.conjuncts.items) (part_tree c.in_ok-one-in-Left.one) (part_tree c.in_ok-one-in-Left.other) c.left_list.result
-    both.0 both.1 refl refl (search rules) (search rules) (search rules) c.left_list.ensures)
-
-pub listed-returns-in_ok-one-in-Right : goal.listed-returns-in_ok-one-in-Right
-listed-returns-in_ok-one-in-Right t c =
-    let scope = c.args.scope.now in
-    let S = scope.schema.now.tables in
-    let l = from_tree c.in-Right.left.value in
-    let r = from_tree c.in-Right.right.value in
-    let on = condition_tree c.in-Right.on in
-    let block = scope_of S (from_tree c.args.block.now) in
-    let none : on_fault S (outside scope) block l r on ≡ None = search rules in
-    let both = neither _ _ none in
-    subst (λ f. Tells (faults.joins_fault S (outside scope) block f) (IsList (first_operand S f) (later_operands S f) (commas_of S f)) c.right_list.result) (sym (ap from_tree c.in-Right.is))
-    (joined.right_told S (outside scope) block (scope_of S l ++ scope_of S r) (faults.kinds_of S l ++ faults.kinds_of S r) l r on c.in-Right.on_at (conjunct_trees c.in_ok-one-in-Right.conjuncts.items) (part_tree c.in_ok-one-in-Right.one) (part_tree c.in_ok-one-in-Right.other) c.right_list.result
-    both.0 both.1 refl refl (search rules) (search rules) (search rules) c.right_list.ensures)
+    join_told S (outside scope) block l r on c.in-Inner.on_at (conjunct_trees c.in_ok-one-in-Inner.conjuncts.items) (part_tree c.in_ok-one-in-Inner.one) (part_tree c.in_ok-one-in-Inner.other) c.join_list.result
+    both.0 both.1 (search rules) (search rules) (search rules) (from_tree c.args.from.now) (each_as from_tree c.in-Inner.is)
+    (subst (λ p. Tells (join_fault p (length c.in_ok-one-in-Inner.one.places.items) (conjunct_trees c.in_ok-one-in-Inner.conjuncts.items) (conjunct_places on) c.in-Inner.on_at) (IsList (joined_operand p (conjunct_trees c.in_ok-one-in-Inner.conjuncts.items) (part_tree c.in_ok-one-in-Inner.one) (part_tree c.in_ok-one-in-Inner.other)) [] []) c.join_list.result) side c.join_list.ensures)
 
 pub listed-returns-in_ok-list-in-Comma : goal.listed-returns-in_ok-list-in-Comma
 listed-returns-in_ok-list-in-Comma t c =

@@ -4,9 +4,9 @@ use Rattle.wt_resolve.proofs.lookup.first_named.Given as goal
 
 abbrev pub invariant-names : goal.invariant-names
 invariant-names l = record {
-  within : l.i ≤ length l.names;
-  so_far : named_at l.names l.name ≡ l.i + named_at (drop l.i l.names) l.name;
+  within : l.i ≤ length l.item.names;
+  so_far : named_at l.item.names l.name ≡ l.i + named_at (drop l.i l.item.names) l.name;
 }
 
 abbrev pub decreases-names : goal.decreases-names
-decreases-names l = length l.names - l.i
+decreases-names l = length l.item.names - l.i

@@ -1,5 +1,4 @@
-use Rattle.std.proofs.Common.{rules, ◌≡◌, true, false, length, filter, ap, sym, ◌∙◌}
-use Rattle.std.specs.Str.{bytes_eq}
+use Rattle.std.proofs.Common.{rules, ◌≡◌, true, false, sym, ◌∙◌}
 use Rattle.wt_query_rows.specs.Scopes.{alias_fits}
 use Rattle.wt_resolve.proofs.Lookups.{fitting_item}
 use Rattle.wt_resolve.proofs.lookup.fitting_in.Goals as goal
@@ -7,7 +6,7 @@ use Rattle.wt_resolve.proofs.lookup.fitting_in.Goals as goal
 pub returns-then-alias_fits : goal.returns-then-alias_fits
 returns-then-alias_fits c =
     let fit : alias_fits c.args.c.now.table c.args.item.now.alias ≡ true = search rules in
-    c.count_named.ensures ∙ ap (λ names. length (filter (bytes_eq c.args.c.now.name) names)) c.as_slice.ensures ∙ sym (fitting_item c.args.c.now c.args.item.now true fit)
+    c.count_named.ensures ∙ sym (fitting_item c.args.c.now c.args.item.now true fit)
 
 pub returns-else-alias_fits : goal.returns-else-alias_fits
 returns-else-alias_fits c =

@@ -5,8 +5,8 @@ use Rattle.wt_resolve.specs.Scoping.{columns_of}
 use Rattle.wt_resolve.proofs.Lookups.{place_found, place_passed, place_within, columns_counted}
 use Rattle.wt_resolve.proofs.lookup.place_of.Goals as goal
 
-pub returns-then-place-len : goal.returns-then-place-len
-returns-then-place-len c =
+pub returns-then-place-width : goal.returns-then-place-width
+returns-then-place-width c =
     let item = c.index-items-i.result in
     let rest = drop (c.items.i + 1) c.args.items.now in
     let step : drop c.items.i c.args.items.now ≡ item ∷ rest = search (rules, drop_more c.args.items.now c.items.i item) in

@@ -13,7 +13,7 @@ overflow_cast-count c =
     let rest = drop (c.items.i + 1) c.args.items.now in
     let step : drop c.items.i c.args.items.now ≡ item ∷ rest = search (rules, drop_more c.args.items.now c.items.i item) in
     let counted : c.items.first + length (columns_of (item ∷ rest)) ≡ length (columns_of c.args.items.now) = subst (λ l. c.items.first + length (columns_of l) ≡ length (columns_of c.args.items.now)) step c.items.invariant.counted in
-    omega (arith, counted, counted_next item rest, c.len-count.ensures, c.requires)
+    omega (arith, counted, counted_next item rest, c.width-count.ensures, c.requires)
 
 pub push_if_under-requires : goal.push_if_under-requires
 push_if_under-requires c =
@@ -29,7 +29,7 @@ overflow_add-first c =
     let rest = drop (c.items.i + 1) c.args.items.now in
     let step : drop c.items.i c.args.items.now ≡ item ∷ rest = search (rules, drop_more c.args.items.now c.items.i item) in
     let counted : c.items.first + length (columns_of (item ∷ rest)) ≡ length (columns_of c.args.items.now) = subst (λ l. c.items.first + length (columns_of l) ≡ length (columns_of c.args.items.now)) step c.items.invariant.counted in
-    omega (arith, counted, counted_next item rest, c.len-count.ensures, c.requires)
+    omega (arith, counted, counted_next item rest, c.width-count.ensures, c.requires)
 
 pub items-preserved : goal.items-preserved
 items-preserved c =
@@ -41,8 +41,8 @@ items-preserved c =
     let whole = places_where (is_of alias) (columns_of c.args.items.now) in
     record {
       within = search (rules, arith);
-      counted = omega (arith, counted, counted_next item rest, c.len-count.ensures);
-      so_far = subst (λ n. c.push_if_under.new.out.items ++ map (λ k. (c.items.first + n) + k) (places_where (is_of alias) (columns_of rest)) ≡ whole) (sym c.len-count.ensures)
+      counted = omega (arith, counted, counted_next item rest, c.width-count.ensures);
+      so_far = subst (λ n. c.push_if_under.new.out.items ++ map (λ k. (c.items.first + n) + k) (places_where (is_of alias) (columns_of rest)) ≡ whole) (sym c.width-count.ensures)
           (under_next alias item rest (bytes_eq alias item.alias) c.items.first c.items.places.items c.push_if_under.new.out.items whole refl c.in_ok-push_if_under.ensures
           (ap (λ l. c.items.places.items ++ map (λ k. c.items.first + k) (places_where (is_of alias) (columns_of l))) (sym step) ∙ c.items.invariant.so_far));
     }

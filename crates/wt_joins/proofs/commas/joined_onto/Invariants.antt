@@ -3,7 +3,7 @@ use Rattle.std.specs.Vec.Iter.{into_iter_items}
 use Rattle.wt_conjunct.specs.Views.{conjunct_trees}
 use Rattle.wt_joins.specs.Parts.{part_tree, part_trees}
 use Rattle.wt_joins.specs.Commas.{list_operand, list_width, AllWithin}
-use Rattle.wt_joins.proofs.commas.joined_list.Given as goal
+use Rattle.wt_joins.proofs.commas.joined_onto.Given as goal
 
 abbrev pub invariant-loop-other : goal.invariant-loop-other
 invariant-loop-other l = record {

@@ -5,7 +5,7 @@ use Rattle.wt_conjunct.specs.Views.{conjunct_trees}
 use Rattle.wt_joins.specs.Parts.{PartTree, part_tree, part_trees, Within}
 use Rattle.wt_joins.specs.Commas.{list_operand, list_width, AllWithin}
 use Rattle.wt_joins.proofs.Listing.{two_width, width_next}
-use Rattle.wt_joins.proofs.commas.joined_list.Goals as goal
+use Rattle.wt_joins.proofs.commas.joined_onto.Goals as goal
 
 pub comma_part-requires-clause-narrow : goal.comma_part-requires-clause-narrow
 comma_part-requires-clause-narrow c =

@@ -1,9 +1,7 @@
 //! The lots of bounds, part by part.
-ghost use Rattle.std.specs.Prelude.{◌≡◌, ◌≢◌, ◌≤◌, ◌<◌, ◌^◌, ◌⊎◌, All, length, map, ℕ, List};
+ghost use Rattle.std.specs.Prelude.{◌≡◌, ◌≢◌, ◌≤◌, ◌<◌, ◌⊎◌, ℕ, List};
 ghost use Rattle.wt_io.specs.Causes.{Rose};
 ghost use Rattle.wt_pair.specs.Candidates.{IsWithinLimits, pairs_of};
-ghost use Rattle.wt_symbol.specs.Lawful.{IsLawful};
-ghost use Rattle.wt_symbol.specs.Sides.{pair_of};
 ghost use Rattle.wt_discovery.specs.Discovering as spec;
 ghost use Rattle.wt_outcome.specs.Outcomes.{AppendsPrefix, Ends, Outcome};
 

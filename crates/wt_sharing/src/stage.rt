@@ -1,5 +1,5 @@
 //! A stage: the rules of a part, found by the workers, and beside them what comes before and after.
-ghost use Rattle.std.specs.Prelude.{◌≡◌, ◌<◌, ◌≤◌, ◌^◌, All, length, map, IfOk};
+ghost use Rattle.std.specs.Prelude.{◌≡◌, ◌<◌, ◌≤◌, ◌^◌, All, length, IfOk};
 ghost use Rattle.wt_board.specs.Lots.{lot_tree};
 ghost use Rattle.wt_board.specs.Rules.{AreLotRules};
 ghost use Rattle.wt_symbol.specs.Lawful.{IsLawful};

@@ -451,8 +451,8 @@ fn leaves_lines<R: Threads + Wait + Sync + Abort + AllocGlobal>(
 
 #[test]
 fn whole_lines_are_put_at_once(rt: HostRuntime) -> Result<(), Fail> {
-    // Of 41 bytes each: the first write takes as many as are 65,536 bytes or more.
-    assert!(rt; leaves_lines(&rt, 3200, 1599)?);
+    // Of 42 bytes each: the first write takes as many as are 65,536 bytes or more.
+    assert!(rt; leaves_lines(&rt, 3200, 1561)?);
     Ok(())
 }
 

@@ -18,8 +18,8 @@ static SCHEMA: &str =
     "CREATE TABLE cust (id INTEGER PRIMARY KEY, name TEXT); CREATE TABLE o (id INTEGER PRIMARY KEY, c INTEGER REFERENCES cust (id), d INTEGER NOT NULL REFERENCES cust (id), k INTEGER UNIQUE);";
 
 // The first statement of a text.
-fn first(alloc: Global, text: &[u8]) -> Result<Query, QueryError>
-    ensures { IfOk result (λ q. IsLawful (query_tree q)) }
+fn first(alloc: Global, text: &[u8]) -> Result<Box<Query>, QueryError>
+    ensures { IfOk result (λ q. IsLawful (query_tree q.value)) }
 {
     match read_queries(alloc, text) {
         Err(_) => Err(QueryError::Memory),

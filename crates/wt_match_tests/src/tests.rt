@@ -46,8 +46,8 @@ static MATCHES: &str =
 -: Proj<a0@r0>(LeftJoin<a1@r0,a2@r1>(r0,r1)) => Proj<a1>(r0) | -: SELECT o.id, o.k FROM o LEFT JOIN cust ON o.c = cust.id";
 
 // The first statement of a text.
-fn first(alloc: Global, text: &str) -> Result<Query, QueryError>
-    ensures { IfOk result (λ q. IsLawful (query_tree q)) }
+fn first(alloc: Global, text: &str) -> Result<Box<Query>, QueryError>
+    ensures { IfOk result (λ q. IsLawful (query_tree q.value)) }
 {
     match read_queries(alloc, text.as_bytes()) {
         Err(_) => Err(QueryError::Memory),

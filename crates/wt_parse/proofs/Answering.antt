@@ -1,6 +1,7 @@
 -- The steps by which the answer to a statement is found.
 use Rattle.std.proofs.Common.{◌≡◌, ℕ, suc, ◌-◌, ◌<◌, true, false, List, [], ◌∷◌, take, refl, ap, ◌∙◌, arith, Some, Result, Err}
 use Rattle.std.specs.Prelude.{map, slice_get}
+use Rattle.std.specs.Global.{Box}
 use Rattle.std.specs.Result.{IsErrAnd}
 use Rattle.std.proofs.lemmas.Result.{err_from_is_err_and}
 use Rattle.wt_lex.specs.declared.token.Token.{Token}
@@ -40,7 +41,7 @@ tokens_back bytes [] = refl
 tokens_back bytes (t ∷ ts) = ap (λ l. t ∷ l) (tokens_back bytes ts)
 
 -- a token that is refused wherever it stands
-pub odd_exit : (e : QueryError) (got : Result Query QueryError) (tokens : List Token) (ans rest : Answer) → IsErrAnd got (λ y. y ≡ e) → NoOdd (Err e) tokens
+pub odd_exit : (e : QueryError) (got : Result (Box Query) QueryError) (tokens : List Token) (ans rest : Answer) → IsErrAnd got (λ y. y ≡ e) → NoOdd (Err e) tokens
     → ans ≡ lexical_or (first_odd tokens) rest → Answers got ans
 odd_exit e got tokens ans rest was h is =
     let y = err_from_is_err_and got was in
@@ -52,7 +53,7 @@ odd_exit e got tokens ans rest was h is =
     by (errors.Lex f at) h = is ∙ ap (λ o. lexical_or o rest) h
 
 -- a refusal that reading meets
-pub read_exit : (e : QueryError) (got : Result Query QueryError) (ans : Answer) (r : Read QueryTree) → IsErrAnd got (λ y. y ≡ e) → Fails e r → ans ≡ limited r → Answers got ans
+pub read_exit : (e : QueryError) (got : Result (Box Query) QueryError) (ans : Answer) (r : Read QueryTree) → IsErrAnd got (λ y. y ≡ e) → Fails e r → ans ≡ limited r → Answers got ans
 read_exit e got ans r was h is =
     let y = err_from_is_err_and got was in
     rw (y.1 ∙ ap Err y.2) (by e h)

@@ -1,5 +1,6 @@
 -- What the calls of the reader returned, beside what the definitions give.
 use Rattle.std.specs.Prelude.{◌≡◌, ℕ, Result, Ok, Err}
+use Rattle.std.specs.Global.{Box}
 use Rattle.wt_lex.specs.declared.token.LexFault.{LexFault}
 use Rattle.wt_lex.specs.declared.token.LexError.{LexError}
 use Rattle.wt_lex.specs.declared.token.LexError.TheVariants as lex_errors
@@ -17,8 +18,8 @@ Reads view (Err lex_errors.Memory) file = Unit {0}
 Reads view (Err (lex_errors.Fault f at)) file = file ≡ Err (f, at)
 
 -- What reading a statement returned is the answer that the definition gives, unless memory ran out.
-abbrev pub Answers : Result Query QueryError → Answer → Type 0
-Answers (Ok q) answer = answer ≡ Ok (query_tree q)
+abbrev pub Answers : Result (Box Query) QueryError → Answer → Type 0
+Answers (Ok q) answer = answer ≡ Ok (query_tree q.value)
 Answers (Err errors.Memory) answer = Unit {0}
 Answers (Err (errors.Refused f at)) answer = answer ≡ Err (refused f, at)
 Answers (Err (errors.Lex f at)) answer = answer ≡ Err (odd f, at)

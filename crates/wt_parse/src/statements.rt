@@ -133,9 +133,9 @@ impl<'a> Queries<'a> {
     }
 
     /// The query that the n-th statement is, from 0, or its first refusal. Its tree is a lawful one.
-    pub fn get(&self, alloc: Global, n: u32) -> Result<Query, QueryError>
+    pub fn get(&self, alloc: Global, n: u32) -> Result<Box<Query>, QueryError>
         requires { n < length self.now.statements }
-        ensures lawful { IfOk result (λ q. IsLawful (query_tree q)) }
+        ensures lawful { IfOk result (λ q. IsLawful (query_tree q.value)) }
         ensures exact { (s : spec.Statement) → slice_get self.now.statements n ≡ Some s → Answers result (spec.answer self.now.bytes s) }
     {
         let piece = self.pieces[n as usize];
@@ -236,11 +236,11 @@ fn limits(alloc: Global, query: &Query) -> Option<QueryError>
 }
 
 // A query that was read, unless it is barred.
-fn limited(alloc: Global, query: Box<Query>) -> Result<Query, QueryError>
+fn limited(alloc: Global, query: Box<Query>) -> Result<Box<Query>, QueryError>
     ensures { Answers result (spec.unless (spec.barred (marks (query_tree query.value))) (query_tree query.value)) }
 {
     match limits(alloc, &query) {
-        None => Ok(Box::into_inner(query)),
+        None => Ok(query),
         Some(error) => Err(error),
     }
 }
@@ -255,7 +255,7 @@ fn begin_of(tokens: &Tokens, piece: Piece) -> u32
 
 // The query that a piece of the tokens is, or its first refusal.
 #[tactic(auto, unfolding(wt_grammar::specs::Statements::answer))]
-fn answer(alloc: Global, bytes: &[u8], tokens: &Tokens, piece: Piece) -> Result<Query, QueryError>
+fn answer(alloc: Global, bytes: &[u8], tokens: &Tokens, piece: Piece) -> Result<Box<Query>, QueryError>
     requires { Holds tokens.now piece }
     ensures { Answers result (spec.answer bytes.now (shown tokens.now piece)) }
 {

@@ -12,7 +12,7 @@ use wt_lex::LexError;
 use wt_parse::{QueryError, read_queries};
 
 // What the n-th statement of a file is.
-fn nth(alloc: Global, bytes: &[u8], n: u32) -> Result<Query, QueryError> {
+fn nth(alloc: Global, bytes: &[u8], n: u32) -> Result<Box<Query>, QueryError> {
     match read_queries(alloc, bytes) {
         Err(LexError::Fault(fault, at)) => Err(QueryError::Lex(fault, at)),
         Err(LexError::Memory) => Err(QueryError::Memory),

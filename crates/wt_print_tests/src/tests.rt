@@ -8,7 +8,7 @@ use wt_parse::{QueryError, read_queries};
 use wt_print::print_query;
 
 // The first statement of a text.
-fn first(alloc: Global, text: &[u8]) -> Result<Query, QueryError> {
+fn first(alloc: Global, text: &[u8]) -> Result<Box<Query>, QueryError> {
     match read_queries(alloc, text) {
         Err(_) => Err(QueryError::Memory),
         Ok(queries) => {

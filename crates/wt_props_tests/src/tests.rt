@@ -36,8 +36,8 @@ fn digits(alloc: Global, text: &str) -> Result<Cols, AllocError> {
 }
 
 // The first statement of a text.
-fn first(alloc: Global, text: &[u8]) -> Result<Query, QueryError>
-    ensures { IfOk result (λ q. IsLawful (query_tree q)) }
+fn first(alloc: Global, text: &[u8]) -> Result<Box<Query>, QueryError>
+    ensures { IfOk result (λ q. IsLawful (query_tree q.value)) }
 {
     match read_queries(alloc, text) {
         Err(_) => Err(QueryError::Memory),

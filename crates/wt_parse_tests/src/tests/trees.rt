@@ -148,7 +148,7 @@ fn joins_hold(query: &Query) -> bool {
     }
 }
 
-fn query_of(alloc: Global, text: &str) -> Option<Query> {
+fn query_of(alloc: Global, text: &str) -> Option<Box<Query>> {
     nth(alloc, text.as_bytes(), 0).ok()
 }
 

@@ -5,5 +5,5 @@ use Rattle.wt_lines.proofs.line.statement_line.Goals as goal
 pub returns-in-Ok : goal.returns-in-Ok
 returns-in-Ok g c =
     if_ok c.query_line.result _ _
-    (λ line is s at. line_read c.args.schema.now.tables c.args.book.now.rules c.args.queries.now.bytes s (query_tree c.in-Ok.query) line (c.in-Ok.ensures.exact s at) is)
+    (λ line is s at. line_read c.args.schema.now.tables c.args.book.now.rules c.args.queries.now.bytes s (query_tree c.in-Ok.query.value) line (c.in-Ok.ensures.exact s at) is)
     c.query_line.ensures

@@ -1,6 +1,7 @@
 //! The columns of a predicate.
-ghost use Rattle.std.specs.Prelude.{◌≡◌, nat_eq, [], ◌∷◌, IfOk, OnOk};
+ghost use Rattle.std.specs.Prelude.{◌≡◌, nat_eq, [], ◌∷◌, ◌++◌, IfOk, OnOk};
 ghost use Rattle.indexmap.specs.IndexSet.{insert_all};
+ghost use Rattle.wt_bag.specs.Bags.{distinct};
 ghost use Rattle.wt_pred.specs.Tree.{pred_tree, preds_tree};
 ghost use Rattle.wt_pred.specs.Columns as spec;
 ghost use Rattle.wt_pred.specs.Laws.{DependsOn};
@@ -16,10 +17,55 @@ impl Pred {
         ensures exact { IfOk result (λ cols. cols ≡ spec.columns (pred_tree self.now)) }
         ensures law { IfOk result (λ cols. DependsOn cols (pred_tree self.now)) }
     {
-        let mut seen = IndexSet::new(alloc);
-        add_columns(self, &mut seen)?;
-        Ok(Cols::from_vec(Vec::from_slice(alloc, seen.as_slice())?))
+        match self {
+            Pred::Compare(_, a, b) => of_operands(alloc, a, b),
+            Pred::IsNull(column) => alone(alloc, *column),
+            Pred::IsNotNull(column) => alone(alloc, *column),
+            Pred::InList(column, _) => alone(alloc, *column),
+            Pred::And(_) | Pred::Or(_) | Pred::Not(_) => collected(alloc, self),
+        }
     }
+}
+
+fn alone(alloc: Global, column: u32) -> Result<Cols, WantOfMemory>
+    ensures { IfOk result (λ cols. cols ≡ column ∷ []) }
+{
+    let mut cols = Cols::new(alloc);
+    cols.push(column)?;
+    Ok(cols)
+}
+
+fn push_operand(operand: &Operand, cols: &mut Cols) -> Result<(), WantOfMemory>
+    ensures { OnOk result (cols.new ≡ insert_all nat_eq cols.old (spec.operand_columns operand.now)) }
+{
+    match operand {
+        Operand::Column(column) => {
+            if !cols.as_slice().contains(column) {
+                cols.push(*column)?;
+            }
+            Ok(())
+        }
+        Operand::Constant(_) => Ok(()),
+    }
+}
+
+/// The columns of a comparison.
+fn of_operands(alloc: Global, a: &Operand, b: &Operand) -> Result<Cols, WantOfMemory>
+    ensures { IfOk result (λ cols. cols ≡ distinct nat_eq (spec.operand_columns a.now ++ spec.operand_columns b.now)) }
+{
+    let mut cols = Cols::new(alloc);
+    push_operand(a, &mut cols)?;
+    push_operand(b, &mut cols)?;
+    Ok(cols)
+}
+
+/// The columns of a predicate that may have many parts.
+fn collected(alloc: Global, pred: &Pred) -> Result<Cols, WantOfMemory>
+    ensures { IfOk result (λ cols. cols ≡ spec.columns (pred_tree pred.now)) }
+{
+    let mut seen = IndexSet::new(alloc);
+    add_columns(pred, &mut seen)?;
+    Ok(Cols::from_vec(Vec::from_slice(alloc, seen.as_slice())?))
 }
 
 fn add_column(column: u32, seen: &mut IndexSet<u32>) -> Result<(), WantOfMemory>

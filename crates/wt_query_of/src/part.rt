@@ -20,14 +20,14 @@ use wt_value::{Cols, Name, Names, WantOfMemory};
 /// A FROM clause, and its items with their columns.
 #[derive(Drop)]
 pub(crate) struct Part {
-    pub from: FromPart,
+    pub from: Box<FromPart>,
     pub leaves: Vec<Leaf>,
 }
 
 /// A zone: its FROM clause with its items, and its conditions.
 #[derive(Drop)]
 pub(crate) struct Zone {
-    pub from: FromPart,
+    pub from: Box<FromPart>,
     pub leaves: Vec<Leaf>,
     pub conditions: Vec<Condition>,
 }
@@ -58,19 +58,20 @@ pub(crate) fn table_part(
     number: u32,
     item: u64,
 ) -> Result<Part, WantOfMemory>
-    ensures from { IfOk result (λ p. from_tree p.from ≡ table (spec.table_name schema.now.tables number) (Some (spec.alias_of item)) 0 0) }
+    ensures from { IfOk result (λ p. from_tree p.from.value ≡ table (spec.table_name schema.now.tables number) (Some (spec.alias_of item)) 0 0) }
     ensures columns { IfOk result (λ p. scope_of_leaves schema.now.tables p.leaves.items ≡ map (in_scope (spec.alias_of item)) (spec.table_columns schema.now.tables number)) }
 {
     let leaf = Leaf {
         alias: alias_of(alloc, item)?,
         columns: LeafColumns::Table(number),
     };
-    let from = FromPart::Table {
+    let table = FromPart::Table {
         name: table_name(alloc, schema, number)?,
         alias: Some(leaf.alias.clone()?),
         at: 0,
         alias_at: 0,
     };
+    let from = Box::new(alloc, table)?;
     let leaves = one_leaf(alloc, leaf)?;
     Ok(Part { from, leaves })
 }
@@ -81,17 +82,18 @@ pub(crate) fn derived_from(
     query: Query,
     alias: Name,
     columns: Names,
-) -> Result<FromPart, WantOfMemory>
-    ensures { IfOk result (λ f. from_tree f ≡ derived (query_tree query) alias (Some columns) 0 0) }
+) -> Result<Box<FromPart>, WantOfMemory>
+    ensures { IfOk result (λ f. from_tree f.value ≡ derived (query_tree query) alias (Some columns) 0 0) }
 {
     let query = Box::new(alloc, query)?;
-    Ok(FromPart::Derived {
+    let derived = FromPart::Derived {
         query,
         alias,
         columns: Some(columns),
         at: 0,
         alias_at: 0,
-    })
+    };
+    Ok(Box::new(alloc, derived)?)
 }
 
 /// What a derived table is called: its alias, its columns, and itself as the only item of a FROM clause.
@@ -128,7 +130,7 @@ pub(crate) fn derived_part(
     width: u32,
     item: u64,
 ) -> Result<Part, WantOfMemory>
-    ensures from { IfOk result (λ p. from_tree p.from ≡ derived (query_tree query) (spec.alias_of item) (Some (spec.place_names width)) 0 0) }
+    ensures from { IfOk result (λ p. from_tree p.from.value ≡ derived (query_tree query) (spec.alias_of item) (Some (spec.place_names width)) 0 0) }
     ensures columns { (S : List Table) → IfOk result (λ p. scope_of_leaves S p.leaves.items ≡ map (in_scope (spec.alias_of item)) (spec.place_names width)) }
 {
     let names = derived_names(alloc, width, item)?;
@@ -197,19 +199,6 @@ fn on_of(
     together(alloc, on)
 }
 
-fn boxes(
-    alloc: Global,
-    left: FromPart,
-    right: FromPart,
-) -> Result<(Box<FromPart>, Box<FromPart>), WantOfMemory>
-    ensures left { IfOk result (λ both. both.0.value ≡ left) }
-    ensures right { IfOk result (λ both. both.1.value ≡ right) }
-{
-    let left = Box::new(alloc, left)?;
-    let right = Box::new(alloc, right)?;
-    Ok((left, right))
-}
-
 /// The parts of a join: its operands, its ON, and the items of both operands.
 #[derive(Drop)]
 struct Join {
@@ -229,18 +218,17 @@ fn joined(
     left: Part,
     right: Zone,
 ) -> Result<Join, WantOfMemory>
-    ensures left { IfOk result (λ j. j.left.value ≡ left.from) }
-    ensures right { IfOk result (λ j. j.right.value ≡ right.from) }
+    ensures left { IfOk result (λ j. j.left.value ≡ left.from.value) }
+    ensures right { IfOk result (λ j. j.right.value ≡ right.from.value) }
     ensures on { IfOk result (λ j. condition_tree j.on ≡ spec.together (spec.pair_trees (scope_of_leaves schema.now.tables left.leaves.items) (scope_of_leaves schema.now.tables right.leaves.items) a.now b.now ++ map condition_tree right.conditions.items)) }
     ensures columns { IfOk result (λ j. scope_of_leaves schema.now.tables j.leaves.items ≡ scope_of_leaves schema.now.tables left.leaves.items ++ scope_of_leaves schema.now.tables right.leaves.items) }
 {
     let conditions = right.conditions;
     let on = on_of(alloc, schema, a, b, &left.leaves, &right.leaves, conditions)?;
     let leaves = both(left.leaves, right.leaves)?;
-    let (left, right) = boxes(alloc, left.from, right.from)?;
     Ok(Join {
-        left,
-        right,
+        left: left.from,
+        right: right.from,
         on,
         leaves,
     })
@@ -256,7 +244,7 @@ pub(crate) fn inner_part(
     left: Part,
     right: Part,
 ) -> Result<Part, WantOfMemory>
-    ensures from { IfOk result (λ p. from_tree p.from ≡ inner_join (from_tree left.from) (from_tree right.from) (spec.together (spec.pair_trees (scope_of_leaves schema.now.tables left.leaves.items) (scope_of_leaves schema.now.tables right.leaves.items) a.now b.now)) 0) }
+    ensures from { IfOk result (λ p. from_tree p.from.value ≡ inner_join (from_tree left.from.value) (from_tree right.from.value) (spec.together (spec.pair_trees (scope_of_leaves schema.now.tables left.leaves.items) (scope_of_leaves schema.now.tables right.leaves.items) a.now b.now)) 0) }
     ensures columns { IfOk result (λ p. scope_of_leaves schema.now.tables p.leaves.items ≡ scope_of_leaves schema.now.tables left.leaves.items ++ scope_of_leaves schema.now.tables right.leaves.items) }
 {
     let right = Zone {
@@ -265,13 +253,14 @@ pub(crate) fn inner_part(
         conditions: Vec::new(alloc),
     };
     let join = joined(alloc, schema, a, b, left, right)?;
+    let from = FromPart::Inner {
+        left: join.left,
+        right: join.right,
+        on: join.on,
+        on_at: 0,
+    };
     Ok(Part {
-        from: FromPart::Inner {
-            left: join.left,
-            right: join.right,
-            on: join.on,
-            on_at: 0,
-        },
+        from: Box::new(alloc, from)?,
         leaves: join.leaves,
     })
 }
@@ -285,17 +274,18 @@ pub(crate) fn left_part(
     left: Part,
     right: Zone,
 ) -> Result<Part, WantOfMemory>
-    ensures from { IfOk result (λ p. from_tree p.from ≡ left_join (from_tree left.from) (from_tree right.from) (spec.together (spec.pair_trees (scope_of_leaves schema.now.tables left.leaves.items) (scope_of_leaves schema.now.tables right.leaves.items) a.now b.now ++ map condition_tree right.conditions.items)) 0) }
+    ensures from { IfOk result (λ p. from_tree p.from.value ≡ left_join (from_tree left.from.value) (from_tree right.from.value) (spec.together (spec.pair_trees (scope_of_leaves schema.now.tables left.leaves.items) (scope_of_leaves schema.now.tables right.leaves.items) a.now b.now ++ map condition_tree right.conditions.items)) 0) }
     ensures columns { IfOk result (λ p. scope_of_leaves schema.now.tables p.leaves.items ≡ scope_of_leaves schema.now.tables left.leaves.items ++ scope_of_leaves schema.now.tables right.leaves.items) }
 {
     let join = joined(alloc, schema, a, b, left, right)?;
+    let from = FromPart::Left {
+        left: join.left,
+        right: join.right,
+        on: join.on,
+        on_at: 0,
+    };
     Ok(Part {
-        from: FromPart::Left {
-            left: join.left,
-            right: join.right,
-            on: join.on,
-            on_at: 0,
-        },
+        from: Box::new(alloc, from)?,
         leaves: join.leaves,
     })
 }
@@ -350,23 +340,23 @@ fn finished(
     alloc: Global,
     distinct: bool,
     items: Items,
-    from: FromPart,
+    from: Box<FromPart>,
     conditions: Vec<Condition>,
 ) -> Result<Query, WantOfMemory>
-    ensures { IfOk result (λ q. query_tree q ≡ select distinct items (from_tree from) (spec.where_of (map condition_tree conditions.items))) }
+    ensures { IfOk result (λ q. query_tree q ≡ select distinct items (from_tree from.value) (spec.where_of (map condition_tree conditions.items))) }
 {
     let filter = where_of(alloc, conditions)?;
     Ok(Query {
         distinct,
         items,
-        from,
+        from: Box::into_inner(from),
         filter,
     })
 }
 
 /// `SELECT [DISTINCT] *` from a zone.
 pub(crate) fn all_columns(alloc: Global, distinct: bool, zone: Zone) -> Result<Query, WantOfMemory>
-    ensures { IfOk result (λ q. query_tree q ≡ select distinct (spec.items_of None []) (from_tree zone.from) (spec.where_of (map condition_tree zone.conditions.items))) }
+    ensures { IfOk result (λ q. query_tree q ≡ select distinct (spec.items_of None []) (from_tree zone.from.value) (spec.where_of (map condition_tree zone.conditions.items))) }
 {
     let items = star(alloc)?;
     finished(alloc, distinct, items, zone.from, zone.conditions)
@@ -380,7 +370,7 @@ pub(crate) fn some_columns(
     cols: &Cols,
     zone: Zone,
 ) -> Result<Query, WantOfMemory>
-    ensures { IfOk result (λ q. query_tree q ≡ select distinct (spec.items_of (Some cols.now) (scope_of_leaves schema.now.tables zone.leaves.items)) (from_tree zone.from) (spec.where_of (map condition_tree zone.conditions.items))) }
+    ensures { IfOk result (λ q. query_tree q ≡ select distinct (spec.items_of (Some cols.now) (scope_of_leaves schema.now.tables zone.leaves.items)) (from_tree zone.from.value) (spec.where_of (map condition_tree zone.conditions.items))) }
 {
     let sight = Sight {
         schema,
@@ -399,7 +389,7 @@ pub(crate) fn named_columns(
     names: &[Name],
     zone: Zone,
 ) -> Result<Query, WantOfMemory>
-    ensures { IfOk result (λ q. query_tree q ≡ select distinct (spec.named_items (scope_of_leaves schema.now.tables zone.leaves.items) cols.now names.now) (from_tree zone.from) (spec.where_of (map condition_tree zone.conditions.items))) }
+    ensures { IfOk result (λ q. query_tree q ≡ select distinct (spec.named_items (scope_of_leaves schema.now.tables zone.leaves.items) cols.now names.now) (from_tree zone.from.value) (spec.where_of (map condition_tree zone.conditions.items))) }
 {
     let sight = Sight {
         schema,
@@ -413,9 +403,9 @@ pub(crate) fn named_columns(
 pub(crate) fn star_from(
     alloc: Global,
     distinct: bool,
-    from: FromPart,
+    from: Box<FromPart>,
 ) -> Result<Query, WantOfMemory>
-    ensures { IfOk result (λ q. query_tree q ≡ select distinct (spec.items_of None []) (from_tree from) no_filter) }
+    ensures { IfOk result (λ q. query_tree q ≡ select distinct (spec.items_of None []) (from_tree from.value) no_filter) }
 {
     let items = star(alloc)?;
     finished(alloc, distinct, items, from, Vec::new(alloc))

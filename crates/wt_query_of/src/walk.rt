@@ -35,7 +35,7 @@ fn item_part(
     requires narrow { Narrow (plan_tree item.now) }
     requires cheap { cost (plan_tree item.now) < 2 ^ 62 }
     requires room { next.old + from_items (zone_of (plan_tree item.now)) < 2 ^ 62 }
-    ensures from { IfOk result (λ p. trees.from_tree p.from ≡ spec.from_tree schema.now.tables next.old (zone_of (plan_tree item.now))) }
+    ensures from { IfOk result (λ p. trees.from_tree p.from.value ≡ spec.from_tree schema.now.tables next.old (zone_of (plan_tree item.now))) }
     ensures columns { IfOk result (λ p. scope_of_leaves schema.now.tables p.leaves.items ≡ spec.zone_columns schema.now.tables next.old (zone_of (plan_tree item.now))) }
     ensures next { OnOk result (next.new ≡ next.old + from_items (zone_of (plan_tree item.now))) }
 {
@@ -69,7 +69,7 @@ fn above(
     requires cheap { cost (plan_tree operator.now) < 2 ^ 62 }
     requires room { next.old + (added_items (plan_tree operator.now) + items_behind (plan_tree operator.now)) < 2 ^ 62 }
     requires behind { behind.old + items_behind (plan_tree operator.now) < 2 ^ 62 }
-    ensures from { IfOk result (λ p. trees.from_tree p.from ≡ above_from schema.now.tables next.old (trees.from_tree first.from) (scope_of_leaves schema.now.tables first.leaves.items) (plan_tree operator.now)) }
+    ensures from { IfOk result (λ p. trees.from_tree p.from.value ≡ above_from schema.now.tables next.old (trees.from_tree first.from.value) (scope_of_leaves schema.now.tables first.leaves.items) (plan_tree operator.now)) }
     ensures columns { IfOk result (λ p. scope_of_leaves schema.now.tables p.leaves.items ≡ above_columns schema.now.tables next.old (scope_of_leaves schema.now.tables first.leaves.items) (plan_tree operator.now)) }
     ensures conditions { OnOk result (map condition_tree conditions.new.items ≡ map condition_tree conditions.old.items ++ added_conditions schema.now.tables next.old behind.old (scope_of_leaves schema.now.tables first.leaves.items) (plan_tree operator.now)) }
     ensures next { OnOk result (next.new ≡ next.old + added_items (plan_tree operator.now)) }
@@ -112,7 +112,7 @@ fn part(
     requires cheap { cost (plan_tree plan.now) < 2 ^ 62 }
     requires room { next.old + (from_items (zone_of (plan_tree plan.now)) + condition_items (zone_of (plan_tree plan.now))) < 2 ^ 62 }
     requires behind { behind.old + condition_items (zone_of (plan_tree plan.now)) < 2 ^ 62 }
-    ensures from { IfOk result (λ p. trees.from_tree p.from ≡ spec.from_tree schema.now.tables next.old (zone_of (plan_tree plan.now))) }
+    ensures from { IfOk result (λ p. trees.from_tree p.from.value ≡ spec.from_tree schema.now.tables next.old (zone_of (plan_tree plan.now))) }
     ensures columns { IfOk result (λ p. scope_of_leaves schema.now.tables p.leaves.items ≡ spec.zone_columns schema.now.tables next.old (zone_of (plan_tree plan.now))) }
     ensures conditions { OnOk result (map condition_tree conditions.new.items ≡ map condition_tree conditions.old.items ++ spec.condition_trees schema.now.tables next.old behind.old (zone_of (plan_tree plan.now))) }
     ensures next { OnOk result (next.new ≡ next.old + from_items (zone_of (plan_tree plan.now))) }
@@ -138,7 +138,7 @@ pub(crate) fn zone(
     requires narrow { Narrow (plan_tree plan.now) }
     requires cheap { cost (plan_tree plan.now) < 2 ^ 62 }
     requires room { next.old + (from_items (zone_of (plan_tree plan.now)) + condition_items (zone_of (plan_tree plan.now))) < 2 ^ 62 }
-    ensures from { IfOk result (λ z. trees.from_tree z.from ≡ spec.from_tree schema.now.tables next.old (zone_of (plan_tree plan.now))) }
+    ensures from { IfOk result (λ z. trees.from_tree z.from.value ≡ spec.from_tree schema.now.tables next.old (zone_of (plan_tree plan.now))) }
     ensures columns { IfOk result (λ z. scope_of_leaves schema.now.tables z.leaves.items ≡ spec.zone_columns schema.now.tables next.old (zone_of (plan_tree plan.now))) }
     ensures conditions { IfOk result (λ z. map condition_tree z.conditions.items ≡ spec.condition_trees schema.now.tables next.old (next.old + from_items (zone_of (plan_tree plan.now))) (zone_of (plan_tree plan.now))) }
     ensures next { OnOk result (next.new ≡ next.old + (from_items (zone_of (plan_tree plan.now)) + condition_items (zone_of (plan_tree plan.now)))) }

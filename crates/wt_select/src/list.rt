@@ -259,9 +259,9 @@ pub fn select(alloc: Global, scope: &Scope, items: &[Item]) -> Result<Selected, 
     ensures { Tells (faults.items_fault (outside scope.now) (inside scope.now) scope.now.kinds.now 0 items.now) (λ s. Lists (inside scope.now) scope.now.kinds.now items.now s) result }
 {
     let mut selected = Selected {
-        names: Vec::new(alloc),
-        kinds: Vec::new(alloc),
-        places: Vec::new(alloc),
+        names: Vec::with_capacity(alloc, items.len())?,
+        kinds: Vec::with_capacity(alloc, items.len())?,
+        places: Vec::with_capacity(alloc, items.len())?,
     };
     let mut rest = items;
     'items: while let [item, more @ ..] = rest {

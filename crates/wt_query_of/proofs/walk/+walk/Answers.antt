@@ -29,7 +29,7 @@ item_part-returns-in_ok-query-in-Dedup-clause-from t c =
     c.in_ok-query-in-Dedup.ensures.tree ∙ ap (λ p. spec.block_tree S c.taken-number.new.next (distinct (plan_block (plan_tree p)))) c.deref-in-Dedup.ensures
     in
     let is = distinct_from S n c.taken-number.result c.taken-number.new.next c.width-in-Dedup.result inner (query_tree c.in_ok-query-in-Dedup.query) q c.taken-number.ensures.next c.taken-number.ensures.number w in
-    subst (λ f. IfOk c.derived_part-in-Dedup.result (λ p. trees.from_tree p.from ≡ f)) (is ∙ ap (λ p. spec.from_tree S n (zone_of p)) (sym whole)) c.derived_part-in-Dedup.ensures.from
+    subst (λ f. IfOk c.derived_part-in-Dedup.result (λ p. trees.from_tree p.from.value ≡ f)) (is ∙ ap (λ p. spec.from_tree S n (zone_of p)) (sym whole)) c.derived_part-in-Dedup.ensures.from
 
 pub item_part-returns-in_ok-query-in-Dedup-clause-columns : goal.item_part-returns-in_ok-query-in-Dedup-clause-columns
 item_part-returns-in_ok-query-in-Dedup-clause-columns t c =
@@ -91,7 +91,7 @@ part-operators-preserved t c =
     let low : bottom p c.operators.operators.items ≡ first_of b = ap (bottom p) popped ∙ bottom_last p rest c.in-Some.operator ∙ ap first_of (sym is) in
     let next : c.operators.next ≡ n + from_items (zone_of (first_of b)) = known.next ∙ ap (λ q. n + from_items (zone_of q)) low in
     let behind : c.operators.behind ≡ m + condition_items (zone_of (first_of b)) = known.behind ∙ ap (λ q. m + condition_items (zone_of q)) low in
-    let from : trees.from_tree c.operators.built.from ≡ spec.from_tree S n (zone_of (first_of b)) = known.from ∙ ap (λ q. spec.from_tree S n (zone_of q)) low in
+    let from : trees.from_tree c.operators.built.from.value ≡ spec.from_tree S n (zone_of (first_of b)) = known.from ∙ ap (λ q. spec.from_tree S n (zone_of q)) low in
     let columns : scope_of_leaves S c.operators.built.leaves.items ≡ spec.zone_columns S n (zone_of (first_of b)) = known.columns ∙ ap (λ q. spec.zone_columns S n (zone_of q)) low in
     let conditions : map trees.condition_tree c.operators.conditions.items ≡ before ++ spec.condition_trees S n m (zone_of (first_of b)) =
     known.conditions ∙ ap (λ q. before ++ spec.condition_trees S n m (zone_of q)) low

@@ -43,7 +43,7 @@ invariant-part-operators l =
     record {
       down : AreDown p l.operators.items;
       within : All (λ s. size-Plan s.now ≤ size-Plan l.fn.plan) l.operators.items;
-      from : trees.from_tree l.built.from ≡ spec.from_tree S l.fn.next zone;
+      from : trees.from_tree l.built.from.value ≡ spec.from_tree S l.fn.next zone;
       columns : scope_of_leaves S l.built.leaves.items ≡ spec.zone_columns S l.fn.next zone;
       conditions : map condition_tree l.conditions.items ≡ map condition_tree l.fn.conditions.items ++ spec.condition_trees S l.fn.next l.fn.behind zone;
       next : l.next ≡ l.fn.next + from_items zone;

@@ -17,16 +17,11 @@ impl Pred {
         ensures exact { IfOk result (λ cols. cols ≡ spec.columns (pred_tree self.now)) }
         ensures law { IfOk result (λ cols. DependsOn cols (pred_tree self.now)) }
     {
-        match self {
-            Pred::Compare(_, a, b) => of_operands(alloc, a, b),
-            Pred::IsNull(column) => alone(alloc, *column),
-            Pred::IsNotNull(column) => alone(alloc, *column),
-            Pred::InList(column, _) => alone(alloc, *column),
-            Pred::And(_) | Pred::Or(_) | Pred::Not(_) => collected(alloc, self),
-        }
+        columns_of(alloc, self)
     }
 }
 
+/// One column.
 fn alone(alloc: Global, column: u32) -> Result<Cols, WantOfMemory>
     ensures { IfOk result (λ cols. cols ≡ column ∷ []) }
 {
@@ -35,37 +30,48 @@ fn alone(alloc: Global, column: u32) -> Result<Cols, WantOfMemory>
     Ok(cols)
 }
 
-fn push_operand(operand: &Operand, cols: &mut Cols) -> Result<(), WantOfMemory>
-    ensures { OnOk result (cols.new ≡ insert_all nat_eq cols.old (spec.operand_columns operand.now)) }
+/// Two columns, once if they are one.
+fn of_two(alloc: Global, a: u32, b: u32) -> Result<Cols, WantOfMemory>
+    ensures { IfOk result (λ cols. cols ≡ distinct nat_eq (a ∷ b ∷ [])) }
 {
-    match operand {
-        Operand::Column(column) => {
-            if !cols.as_slice().contains(column) {
-                cols.push(*column)?;
-            }
-            Ok(())
-        }
-        Operand::Constant(_) => Ok(()),
+    let mut cols = alone(alloc, a)?;
+    if a != b {
+        cols.push(b)?;
     }
+    Ok(cols)
 }
 
 /// The columns of a comparison.
 fn of_operands(alloc: Global, a: &Operand, b: &Operand) -> Result<Cols, WantOfMemory>
     ensures { IfOk result (λ cols. cols ≡ distinct nat_eq (spec.operand_columns a.now ++ spec.operand_columns b.now)) }
 {
-    let mut cols = Cols::new(alloc);
-    push_operand(a, &mut cols)?;
-    push_operand(b, &mut cols)?;
-    Ok(cols)
+    match (a, b) {
+        (Operand::Column(a), Operand::Column(b)) => of_two(alloc, *a, *b),
+        (Operand::Column(a), Operand::Constant(_)) => alone(alloc, *a),
+        (Operand::Constant(_), Operand::Column(b)) => alone(alloc, *b),
+        (Operand::Constant(_), Operand::Constant(_)) => Ok(Cols::new(alloc)),
+    }
 }
 
-/// The columns of a predicate that may have many parts.
+/// The columns of a predicate of any size, by a set.
 fn collected(alloc: Global, pred: &Pred) -> Result<Cols, WantOfMemory>
     ensures { IfOk result (λ cols. cols ≡ spec.columns (pred_tree pred.now)) }
 {
     let mut seen = IndexSet::new(alloc);
     add_columns(pred, &mut seen)?;
     Ok(Cols::from_vec(Vec::from_slice(alloc, seen.as_slice())?))
+}
+
+/// The columns of a predicate, without a set for the one or two of a single condition.
+fn columns_of(alloc: Global, pred: &Pred) -> Result<Cols, WantOfMemory>
+    ensures { IfOk result (λ cols. cols ≡ spec.columns (pred_tree pred.now)) }
+{
+    match pred {
+        Pred::Compare(_, a, b) => of_operands(alloc, a, b),
+        Pred::IsNull(column) | Pred::IsNotNull(column) => alone(alloc, *column),
+        Pred::InList(column, _) => alone(alloc, *column),
+        Pred::And(_) | Pred::Or(_) | Pred::Not(_) => collected(alloc, pred),
+    }
 }
 
 fn add_column(column: u32, seen: &mut IndexSet<u32>) -> Result<(), WantOfMemory>

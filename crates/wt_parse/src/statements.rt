@@ -255,7 +255,12 @@ fn begin_of(tokens: &Tokens, piece: Piece) -> u32
 
 // The query that a piece of the tokens is, or its first refusal.
 #[tactic(auto, unfolding(wt_grammar::specs::Statements::answer))]
-fn answer(alloc: Global, bytes: &[u8], tokens: &Tokens, piece: Piece) -> Result<Box<Query>, QueryError>
+fn answer(
+    alloc: Global,
+    bytes: &[u8],
+    tokens: &Tokens,
+    piece: Piece,
+) -> Result<Box<Query>, QueryError>
     requires { Holds tokens.now piece }
     ensures { Answers result (spec.answer bytes.now (shown tokens.now piece)) }
 {

@@ -16,19 +16,19 @@ use Rattle.wt_pair.specs.declared.walk.Cursor.{Cursor}
 use Rattle.wt_pair.specs.declared.lot.Lot.{Lot}
 use Rattle.wt_pair.specs.Candidates.{leaf_count, list_count, source_of, destinations, anchorings, is_lawful, pairs_of_anchoring, pairs_of_template, pairs_of}
 use Rattle.wt_pair.specs.Track.{IsOnTrack, given, rest_at}
-use Rattle.wt_pair.specs.Lots.{IsNextLot}
+use Rattle.wt_pair.specs.Lots.{AreNext}
 use Rattle.wt_pair.specs.Walk.{Fills, Progress}
 
-module _ (P had lot from rest : List PairTree) (f : ℕ) (none : had ≡ []) (begin : from ≡ drop f P) (filled : Fills 4096 had lot from rest) where
+module _ (most : ℕ) (P had lot from rest : List PairTree) (f : ℕ) (none : had ≡ []) (begin : from ≡ drop f P) (filled : Fills most had lot from rest) where
   joined : lot ++ rest ≡ drop f P
   joined = let pairs = rw none at filled.pairs in pairs ∙ begin
 
-  pub lot_pairs : lot ≡ take 4096 (drop f P)
+  pub lot_pairs : lot ≡ take most (drop f P)
   lot_pairs =
       rw (← joined)
       (elim filled.full_or_done [
-        | inl full ↦ sym (take_at lot rest 4096 full)
-        | inr done ↦ rw (done, append-nil) (sym (take_all 4096 lot filled.within))
+        | inl full ↦ sym (take_at lot rest most full)
+        | inr done ↦ rw (done, append-nil) (sym (take_all most lot filled.within))
       ])
 
   pub lot_rest : rest ≡ drop (f + length lot) P
@@ -75,14 +75,14 @@ each_lawful b =
     each_implies (λ p. is_lawful p ≡ true) IsLawful (pairs_of_anchoring b.ops.0 b.dst t anchors) is_none_from
     (filter_passes is_lawful (map (λ d. record { source = source_of t; dest = d; anchors = anchors }) (destinations b.ops.0 b.dst t)))))))
 
-pub lot_lawful : (b : Bounds) (f : ℕ) (pairs : List Pair) → map pair_of pairs ≡ take 4096 (drop f (pairs_of b)) → All (λ p. IsLawful (pair_of p)) pairs
-lot_lawful b f pairs is =
-    let each : Each IsLawful (map pair_of pairs) = rw is (each_take IsLawful 4096 _ (each_drop IsLawful f _ (each_lawful b))) in
+pub lot_lawful : (most : ℕ) (b : Bounds) (f : ℕ) (pairs : List Pair) → map pair_of pairs ≡ take most (drop f (pairs_of b)) → All (λ p. IsLawful (pair_of p)) pairs
+lot_lawful most b f pairs is =
+    let each : Each IsLawful (map pair_of pairs) = rw is (each_take IsLawful most _ (each_drop IsLawful f _ (each_lawful b))) in
     all_from_each (λ p. IsLawful (pair_of p)) pairs (each_of_map IsLawful pair_of pairs each)
 
 -- ---- a lot behind a place
 
-module _ (b : Bounds) (old at : Cursor) (had : List PairTree) (pairs : List Pair) (none : had ≡ []) (filled : Fills 4096 had (map pair_of pairs) (rest_at b old) (rest_at b at)) (first : ℕ) (track : IsOnTrack b old first) where
+module _ (most : ℕ) (b : Bounds) (old at : Cursor) (had : List PairTree) (pairs : List Pair) (none : had ≡ []) (filled : Fills most had (map pair_of pairs) (rest_at b old) (rest_at b at)) (first : ℕ) (track : IsOnTrack b old first) where
   abbrev lot : List PairTree
   lot = map pair_of pairs
 
@@ -90,12 +90,12 @@ module _ (b : Bounds) (old at : Cursor) (had : List PairTree) (pairs : List Pair
   within = omega arith
 
   next_rest : rest_at b at ≡ drop (given b old + length lot) (pairs_of b)
-  next_rest = lot_rest (pairs_of b) had lot (rest_at b old) (rest_at b at) (given b old) none track.rest filled
+  next_rest = lot_rest most (pairs_of b) had lot (rest_at b old) (rest_at b at) (given b old) none track.rest filled
 
   -- the pairs given before the next place are those given before, and the lot
   pub next_given : given b at ≡ given b old + length pairs
   next_given =
-      let more = lot_within (pairs_of b) had lot (rest_at b old) (rest_at b at) (given b old) none track.rest filled within in
+      let more = lot_within most (pairs_of b) had lot (rest_at b old) (rest_at b at) (given b old) none track.rest filled within in
       omega (arith, ap length next_rest, length-drop (given b old + length lot) (pairs_of b), more, length-map pairs pair_of)
 
   pub next_track : (n m : ℕ) → n ≡ min (first + m) (2 ^ 64 - 1) → m ≡ length pairs → IsOnTrack b at n
@@ -106,27 +106,27 @@ module _ (b : Bounds) (old at : Cursor) (had : List PairTree) (pairs : List Pair
   }
 
   pub lot_is : (before : Progress) (l : Lot) → record { bounds = b; first = given b old } ≡ before → l.pairs ≡ pairs → l.bounds ≡ b → l.first ≡ first →
-      IsNextLot before (record { bounds = b; first = given b at }) l
+      AreNext most before (record { bounds = b; first = given b at }) l
   lot_is before l is same_pairs same_bounds same_first =
       let many : length pairs ≡ length l.pairs = ap length (sym same_pairs) in
       let trees : map pair_of l.pairs ≡ lot = ap (map pair_of) same_pairs in
-      let next = lot_pairs (pairs_of b) had lot (rest_at b old) (rest_at b at) (given b old) none track.rest filled in
+      let next = lot_pairs most (pairs_of b) had lot (rest_at b old) (rest_at b at) (given b old) none track.rest filled in
       let moved : given b at ≡ given b old + length lot = next_given ∙ ap (λ k. given b old + k) (sym (length-map pairs pair_of)) in
       rw (← is)
       (record {
         bounds = same_bounds;
         first = same_first ∙ track.counted;
         pairs = trees ∙ next;
-        lawful = lot_lawful b (given b old) l.pairs (trees ∙ next);
+        lawful = lot_lawful most b (given b old) l.pairs (trees ∙ next);
         next = next_given ∙ ap (λ k. given b old + k) many;
         together =
             ap (λ k. take k (pairs_of b)) moved
-            ∙ lot_together (pairs_of b) had lot (rest_at b old) (rest_at b at) (given b old) none track.rest filled within
+            ∙ lot_together most (pairs_of b) had lot (rest_at b old) (rest_at b at) (given b old) none track.rest filled within
             ∙ ap (λ ys. take (given b old) (pairs_of b) ++ ys) (sym trees);
       })
 
   pub not_over : (lot ≡ [] → ⊥) → length (pairs_of b) ≤ given b old → ⊥
-  not_over = not_ended (pairs_of b) had lot (rest_at b old) (rest_at b at) (given b old) none track.rest filled
+  not_over = not_ended most (pairs_of b) had lot (rest_at b old) (rest_at b at) (given b old) none track.rest filled
 
 pub not_empty : (pairs : List Pair) (empty : Bool) → empty ≡ false → (pairs ≡ [] → empty ≡ true) → map pair_of pairs ≡ [] → ⊥
 not_empty pairs empty some full none =

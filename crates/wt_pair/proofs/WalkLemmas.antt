@@ -98,12 +98,12 @@ resumed_passed part again whole same xs k x has had at done so_far =
     ap (λ ys. has ++ ys) (resumed-same again whole same (drop (k + 1) xs)) ∙ before
 
 module _ (b : Bounds) (side : SideTree) (s : Symbols) (a : ℕ) where
-  pub anchoring_next : (d e : ℕ) (has more had : List PairTree) → a < s.leaves ^ s.lists →
-      Fills 4096 has more (rest_of_anchoring b side s d (nth_anchoring s.leaves s.lists a)) (rest_of_anchoring b side s e (nth_anchoring s.leaves s.lists a)) →
+  pub anchoring_next : (most d e : ℕ) (has more had : List PairTree) → a < s.leaves ^ s.lists →
+      Fills most has more (rest_of_anchoring b side s d (nth_anchoring s.leaves s.lists a)) (rest_of_anchoring b side s e (nth_anchoring s.leaves s.lists a)) →
       has ++ rest_of_source b side s a d ≡ had → more ++ rest_of_source b side s a e ≡ had
-  anchoring_next d e has more had within filled so_far =
+  anchoring_next most d e has more had within filled so_far =
       resumed_next (rest_of_anchoring b side s d) (rest_of_anchoring b side s e) (rest_of_anchoring b side s 0) (anchorings s.leaves s.lists) a
-      (nth_anchoring s.leaves s.lists a) 4096 has more had (get-anchorings s.leaves s.lists a within) filled.pairs so_far
+      (nth_anchoring s.leaves s.lists a) most has more had (get-anchorings s.leaves s.lists a within) filled.pairs so_far
 
   pub anchoring_passed : (e : ℕ) (has had : List PairTree) → a < s.leaves ^ s.lists → rest_of_anchoring b side s e (nth_anchoring s.leaves s.lists a) ≡ [] →
       has ++ rest_of_source b side s a e ≡ had → has ++ rest_of_source b side s (a + 1) 0 ≡ had
@@ -125,12 +125,12 @@ all_of_template : (b : Bounds) (t : Shape) → rest_of_source b (source_of t) (s
 all_of_template b t = resumed-same (rest_of_anchoring b (source_of t) (symbols_of t) 0) (pairs_of_anchoring b.ops.0 b.dst t) (λ x. refl) (anchorings (leaf_count t) (list_count t))
 
 module _ (b : Bounds) (n : ℕ) (t : Shape) (at : Some t ≡ slice_get (templates b.ops.0 b.src) n) where
-  pub template_next : (a d a' d' : ℕ) (has more had : List PairTree) →
-      Fills 4096 has more (rest_of_source b (source_of t) (symbols_of t) a d) (rest_of_source b (source_of t) (symbols_of t) a' d') →
+  pub template_next : (most a d a' d' : ℕ) (has more had : List PairTree) →
+      Fills most has more (rest_of_source b (source_of t) (symbols_of t) a d) (rest_of_source b (source_of t) (symbols_of t) a' d') →
       has ++ rest_of_pairs b n a d ≡ had → more ++ rest_of_pairs b n a' d' ≡ had
-  template_next a d a' d' has more had filled so_far =
+  template_next most a d a' d' has more had filled so_far =
       resumed_next (λ u. rest_of_source b (source_of u) (symbols_of u) a d) (λ u. rest_of_source b (source_of u) (symbols_of u) a' d') (pairs_of_template b.ops.0 b.dst)
-      (templates b.ops.0 b.src) n t 4096 has more had (sym at) filled.pairs so_far
+      (templates b.ops.0 b.src) n t most has more had (sym at) filled.pairs so_far
 
   pub template_passed : (a d : ℕ) (has had : List PairTree) → rest_of_source b (source_of t) (symbols_of t) a d ≡ [] →
       has ++ rest_of_pairs b n a d ≡ had → has ++ rest_of_pairs b (n + 1) 0 0 ≡ had

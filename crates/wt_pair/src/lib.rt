@@ -13,7 +13,7 @@ pub use bounds::Bounds;
 pub use lot::Lot;
 pub use pairs::Pairs;
 pub use std::alloc::AllocError as WantOfMemory;
-pub use walk::{LOT, PairList};
+pub use walk::PairList;
 
 fn may_be_shared<T: Send + Sync>() {}
 

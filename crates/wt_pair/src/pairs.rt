@@ -1,13 +1,16 @@
 //! The pairs of bounds, lot by lot.
-ghost use Rattle.std.specs.Prelude.{◌≡◌, ◌↔◌, ◌≤◌, length, IfOk, IfSome, IfNone, IsNone, OnErr};
+ghost use Rattle.std.specs.Prelude.{◌≡◌, ◌↔◌, ◌<◌, ◌≤◌, length, IfOk, IfSome, IfNone, IsNone, OnErr};
 ghost use Rattle.wt_pair.specs.Candidates.{pairs_of, IsWithinLimits};
-ghost use Rattle.wt_pair.specs.Lots.{IsNextLot};
+ghost use Rattle.wt_pair.specs.Lots.{AreNext, IsNextLot};
 
 use crate::bounds::Bounds;
 use crate::lot::Lot;
 use crate::walk::{Cursor, PairList, Spot, fill};
 use std::alloc::{AllocError, Global};
 use std::marker::Model;
+
+/// How many pairs a lot has, if there are so many.
+const LOT: usize = 4096;
 
 /// The pairs of bounds from a place on: contracts see the bounds, and how many pairs were given. The number of the next
 /// pair stands still at the last number of 64 bits.
@@ -47,16 +50,17 @@ impl Pairs {
         }
     }
 
-    /// The next lot of pairs, or None at the end; after want of memory all is as before.
-    pub fn next_lot(&mut self, alloc: Global) -> Result<Option<Lot>, AllocError>
-        ensures lot { IfOk result (λ lot. IfSome lot (λ l. IsNextLot self.old self.new l)) }
+    /// The next pairs, as many as are asked for or the rest, or None at the end; after want of memory all is as before.
+    pub fn next_pairs(&mut self, alloc: Global, most: usize) -> Result<Option<Lot>, AllocError>
+        requires some { 0 < most }
+        ensures lot { IfOk result (λ lot. IfSome lot (λ l. AreNext most self.old self.new l)) }
         ensures bounds { self.new.bounds ≡ self.old.bounds }
         ensures end { IfOk result (λ lot. IsNone lot ↔ (length (pairs_of self.old.bounds) ≤ self.old.first)) }
         ensures none { IfOk result (λ lot. IfNone lot (self.new ≡ self.old)) }
         ensures err { OnErr result (self.new ≡ self.old) }
     {
         let mut pairs = PairList::new(alloc);
-        let cursor = fill(alloc, &self.bounds, self.cursor, &mut pairs)?;
+        let cursor = fill(alloc, &self.bounds, self.cursor, most, &mut pairs)?;
         if pairs.is_empty() {
             return Ok(None);
         }
@@ -68,5 +72,16 @@ impl Pairs {
             first,
             pairs,
         }))
+    }
+
+    /// The next lot of pairs, or None at the end; after want of memory all is as before.
+    pub fn next_lot(&mut self, alloc: Global) -> Result<Option<Lot>, AllocError>
+        ensures lot { IfOk result (λ lot. IfSome lot (λ l. IsNextLot self.old self.new l)) }
+        ensures bounds { self.new.bounds ≡ self.old.bounds }
+        ensures end { IfOk result (λ lot. IsNone lot ↔ (length (pairs_of self.old.bounds) ≤ self.old.first)) }
+        ensures none { IfOk result (λ lot. IfNone lot (self.new ≡ self.old)) }
+        ensures err { OnErr result (self.new ≡ self.old) }
+    {
+        self.next_pairs(alloc, LOT)
     }
 }

@@ -1,11 +1,10 @@
-//! Walks over the candidates of bounds that keep the lawful ones, up to a lot.
+//! Walks over the candidates of bounds that keep the lawful ones, up to as many as are asked for.
 ghost use Rattle.std.specs.Prelude.{◌≡◌, ◌+◌, ◌^◌, ◌<◌, ◌≤◌, ◌++◌, [], ◌∷◌, map, length, false, Some, None, IfOk, IfNone, IfSome, OnOk, slice_get};
 ghost use Rattle.wt_template.specs.Shapes.{Shape, shape_of, templates};
 ghost use Rattle.wt_symbol.specs.Sides.{tree_of, pair_of};
 ghost use Rattle.wt_symbol.specs.Lawful.{stands};
 ghost use Rattle.wt_pair.specs.Candidates.{source_of, lawful_pairs};
 ghost use Rattle.wt_pair.specs.Walk.{nth_anchoring, rest_of_anchoring, rest_of_source, rest_of_pairs, symbols_of, IsSmall, Fills};
-ghost use Rattle.wt_pair.specs.declared.walk.TheConstants.{LOT};
 
 use crate::anchoring::{anchoring, count_anchorings};
 use crate::bounds::Bounds;
@@ -15,9 +14,6 @@ use std::alloc::{AllocError, Global};
 use wt_symbol::{Anchors, Pair, PairFault, Side, first_fault};
 use wt_template::{Template, nth_template};
 use wt_value::Seq;
-
-/// How many pairs a lot has, if there are so many.
-pub const LOT: usize = 4096;
 
 /// A list of pairs.
 pub type PairList = Seq<Pair>;
@@ -57,17 +53,18 @@ fn fill_from_dest(
     source: &Source,
     anchors: &Anchors,
     from: u64,
+    most: usize,
     pairs: &mut PairList,
 ) -> Result<u64, AllocError>
     requires small { IsSmall source.now.symbols }
     requires dst { bounds.now.dst ≤ 4 }
-    requires room { length pairs.old ≤ LOT }
-    ensures { IfOk result (λ d. Fills LOT (map pair_of pairs.old) (map pair_of pairs.new)
+    requires room { length pairs.old ≤ most }
+    ensures { IfOk result (λ d. Fills most (map pair_of pairs.old) (map pair_of pairs.new)
         (rest_of_anchoring bounds.now (tree_of source.now.side) source.now.symbols from anchors.now)
         (rest_of_anchoring bounds.now (tree_of source.now.side) source.now.symbols d anchors.now)) }
 {
     let mut k = from;
-    'dests: while pairs.len() < LOT {
+    'dests: while pairs.len() < most {
         match nth_dest(alloc, bounds.ops, &source.symbols, bounds.dst, k)? {
             Some(dest) => push_lawful(alloc, &source.side, dest, anchors, pairs)?,
             None => return Ok(k),
@@ -93,19 +90,20 @@ fn fill_anchoring(
     source: &Source,
     a: u64,
     d: u64,
+    most: usize,
     pairs: &mut PairList,
 ) -> Result<u64, AllocError>
     requires small { IsSmall source.now.symbols }
     requires dst { bounds.now.dst ≤ 4 }
     requires exists { a < source.now.symbols.leaves ^ source.now.symbols.lists }
-    requires room { length pairs.old ≤ LOT }
-    ensures { IfOk result (λ e. Fills LOT (map pair_of pairs.old) (map pair_of pairs.new)
+    requires room { length pairs.old ≤ most }
+    ensures { IfOk result (λ e. Fills most (map pair_of pairs.old) (map pair_of pairs.new)
         (rest_of_anchoring bounds.now (tree_of source.now.side) source.now.symbols d (nth_anchoring source.now.symbols.leaves source.now.symbols.lists a))
         (rest_of_anchoring bounds.now (tree_of source.now.side) source.now.symbols e (nth_anchoring source.now.symbols.leaves source.now.symbols.lists a))) }
 {
     let anchors = anchoring(alloc, source.symbols.leaves, source.symbols.lists, a)?;
     if has_pairs(alloc, source, &anchors)? {
-        fill_from_dest(alloc, bounds, source, &anchors, d, pairs)
+        fill_from_dest(alloc, bounds, source, &anchors, d, most, pairs)
     } else {
         Ok(d)
     }
@@ -124,12 +122,13 @@ fn fill_source(
     bounds: &Bounds,
     source: &Source,
     from: Spot,
+    most: usize,
     pairs: &mut PairList,
 ) -> Result<Spot, AllocError>
     requires small { IsSmall source.now.symbols }
     requires dst { bounds.now.dst ≤ 4 }
-    requires room { length pairs.old ≤ LOT }
-    ensures { IfOk result (λ e. Fills LOT (map pair_of pairs.old) (map pair_of pairs.new)
+    requires room { length pairs.old ≤ most }
+    ensures { IfOk result (λ e. Fills most (map pair_of pairs.old) (map pair_of pairs.new)
         (rest_of_source bounds.now (tree_of source.now.side) source.now.symbols from.anchoring from.dest)
         (rest_of_source bounds.now (tree_of source.now.side) source.now.symbols e.anchoring e.dest)) }
 {
@@ -137,8 +136,8 @@ fn fill_source(
     let mut anchoring = from.anchoring;
     let mut dest = from.dest;
     'anchorings: while anchoring < count {
-        dest = fill_anchoring(alloc, bounds, source, anchoring, dest, pairs)?;
-        if pairs.len() == LOT {
+        dest = fill_anchoring(alloc, bounds, source, anchoring, dest, most, pairs)?;
+        if pairs.len() == most {
             return Ok(Spot { anchoring, dest });
         }
         anchoring += 1;
@@ -153,17 +152,18 @@ fn fill_template(
     bounds: &Bounds,
     template: &Template,
     from: Spot,
+    most: usize,
     pairs: &mut PairList,
 ) -> Result<Spot, AllocError>
     requires small { IsSmall (symbols_of (shape_of template.now)) }
     requires dst { bounds.now.dst ≤ 4 }
-    requires room { length pairs.old ≤ LOT }
-    ensures { IfOk result (λ e. Fills LOT (map pair_of pairs.old) (map pair_of pairs.new)
+    requires room { length pairs.old ≤ most }
+    ensures { IfOk result (λ e. Fills most (map pair_of pairs.old) (map pair_of pairs.new)
         (rest_of_source bounds.now (source_of (shape_of template.now)) (symbols_of (shape_of template.now)) from.anchoring from.dest)
         (rest_of_source bounds.now (source_of (shape_of template.now)) (symbols_of (shape_of template.now)) e.anchoring e.dest)) }
 {
     let source = source_of_template(alloc, template)?;
-    let spot = fill_source(alloc, bounds, &source, from, pairs)?;
+    let spot = fill_source(alloc, bounds, &source, from, most, pairs)?;
     Ok(spot)
 }
 
@@ -174,20 +174,21 @@ fn fill_nth(
     bounds: &Bounds,
     n: u64,
     from: Spot,
+    most: usize,
     pairs: &mut PairList,
 ) -> Result<Option<Spot>, AllocError>
     requires src { bounds.now.src ≤ 4 }
     requires dst { bounds.now.dst ≤ 4 }
-    requires room { length pairs.old ≤ LOT }
+    requires room { length pairs.old ≤ most }
     ensures none { IfOk result (λ spot. IfNone spot ((None ≡ slice_get (templates bounds.now.ops.0 bounds.now.src) n) × (pairs.new ≡ pairs.old))) }
     ensures some { IfOk result (λ spot. IfSome spot (λ e. (t : Shape) × (Some t ≡ slice_get (templates bounds.now.ops.0 bounds.now.src) n)
-        × Fills LOT (map pair_of pairs.old) (map pair_of pairs.new)
+        × Fills most (map pair_of pairs.old) (map pair_of pairs.new)
         (rest_of_source bounds.now (source_of t) (symbols_of t) from.anchoring from.dest)
         (rest_of_source bounds.now (source_of t) (symbols_of t) e.anchoring e.dest))) }
 {
     match nth_template(alloc, bounds.ops, bounds.src, n)? {
         Some(template) => {
-            let spot = fill_template(alloc, bounds, &template, from, pairs)?;
+            let spot = fill_template(alloc, bounds, &template, from, most, pairs)?;
             Ok(Some(spot))
         }
         None => Ok(None),
@@ -206,20 +207,21 @@ pub fn fill(
     alloc: Global,
     bounds: &Bounds,
     from: Cursor,
+    most: usize,
     pairs: &mut PairList,
 ) -> Result<Cursor, AllocError>
     requires src { bounds.now.src ≤ 4 }
     requires dst { bounds.now.dst ≤ 4 }
-    requires room { length pairs.old ≤ LOT }
-    ensures { IfOk result (λ e. Fills LOT (map pair_of pairs.old) (map pair_of pairs.new)
+    requires room { length pairs.old ≤ most }
+    ensures { IfOk result (λ e. Fills most (map pair_of pairs.old) (map pair_of pairs.new)
         (rest_of_pairs bounds.now from.template from.spot.anchoring from.spot.dest)
         (rest_of_pairs bounds.now e.template e.spot.anchoring e.spot.dest)) }
 {
     let mut template = from.template;
     let mut spot = from.spot;
-    'templates: while let Some(next) = fill_nth(alloc, bounds, template, spot, pairs)? {
+    'templates: while let Some(next) = fill_nth(alloc, bounds, template, spot, most, pairs)? {
         spot = next;
-        if pairs.len() == LOT {
+        if pairs.len() == most {
             return Ok(Cursor { template, spot });
         }
         template += 1;

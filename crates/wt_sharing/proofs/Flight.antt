@@ -17,17 +17,17 @@ use Rattle.wt_outcome.specs.Outcomes.{Stops}
 use Rattle.wt_outcome.specs.declared.stop.Stop.{Stop}
 use Rattle.wt_outcome.specs.declared.stop.Stop.TheVariants.{Memory}
 use Rattle.wt_pair.specs.Candidates.{pairs_of}
+use Rattle.wt_pair.specs.Walk.{Progress}
 use Rattle.wt_pair.specs.declared.bounds.Bounds.{Bounds}
 use Rattle.wt_pair.specs.declared.lot.Lot.{Lot}
 use Rattle.wt_rule.specs.declared.Rule.{Rule}
 use Rattle.wt_symbol.specs.Lawful.{IsLawful}
 use Rattle.wt_symbol.specs.Sides.{PairTree, pair_of}
 use Rattle.wt_sharing.specs.Parts.{Gives, left}
-use Rattle.wt_sharing.specs.declared.parts.Parts.{Parts}
 use Rattle.wt_sharing.specs.Stages.{AreLinesOf}
 
 -- the pairs of the next part and those behind it
-abbrev pub ahead : Option Lot → Parts → List PairTree
+abbrev pub ahead : Option Lot → Progress → List PairTree
 ahead None parts = []
 ahead (Some part) parts = map pair_of part.pairs ++ left parts
 
@@ -37,7 +37,7 @@ MayBeNext b None = ⊤
 MayBeNext b (Some part) = (part.bounds ≡ b) × All (λ p. IsLawful (pair_of p)) part.pairs × (0 < length part.pairs) × (length part.pairs ≤ 512)
 
 -- the lines of the first pairs were put; `before` has the rules of the pairs behind them; the next part and those left follow
-pub record InFlight (b : Bounds) (old new : Option (List ℕ)) (count : ℕ) (before : List Rule) (next : Option Lot) (parts : Parts) : Type 0 where
+pub record InFlight (b : Bounds) (old new : Option (List ℕ)) (count : ℕ) (before : List Rule) (next : Option Lot) (parts : Progress) : Type 0 where
   pub done : ℕ
   pub found : List PairTree
   pub so_far : PutSoFar b.steps b.depth (take done (pairs_of b)) old new count
@@ -48,11 +48,11 @@ pub record InFlight (b : Bounds) (old new : Option (List ℕ)) (count : ℕ) (be
   pub may_follow : MayBeNext b next
 
 -- what was given is ahead
-given : (old new : Parts) (next : Option Lot) → Gives old new next → left old ≡ ahead next new
+given : (old new : Progress) (next : Option Lot) → Gives old new next → left old ≡ ahead next new
 given old new None h = h.0
 given old new (Some part) h = sym h.together
 
-may_be_next : (b : Bounds) (old new : Parts) (next : Option Lot) → old.bounds ≡ b → Gives old new next → MayBeNext b next
+may_be_next : (b : Bounds) (old new : Progress) (next : Option Lot) → old.bounds ≡ b → Gives old new next → MayBeNext b next
 may_be_next b old new None same h = tt
 may_be_next b old new (Some part) same h = (h.bounds ∙ same, h.lawful, h.some, h.few)
 
@@ -64,7 +64,7 @@ none_put b w = record {
 }
 
 -- before the first stage
-pub begun : (b : Bounds) (w : Option (List ℕ)) (before : List Rule) (old new : Parts) (next : Option Lot) → before ≡ [] → old.bounds ≡ b → left old ≡ pairs_of b → new.bounds ≡ old.bounds → Gives old new next
+pub begun : (b : Bounds) (w : Option (List ℕ)) (before : List Rule) (old new : Progress) (next : Option Lot) → before ≡ [] → old.bounds ≡ b → left old ≡ pairs_of b → new.bounds ≡ old.bounds → Gives old new next
     → InFlight b w w 0 before next new
 begun b w before old new next none same all bounds h = record {
   done = 0;
@@ -81,7 +81,7 @@ begun b w before old new next none same all bounds h = record {
 pub stops_first : (b : Bounds) (w : Option (List ℕ)) → PutsRulesOf b (pairs_of b) ⊥ w w (Err Memory)
 stops_first b w = stops_here b (pairs_of b) ⊥ 0 w w 0 (none_put b w)
 
-module _ (b : Bounds) (old mid : Option (List ℕ)) (count : ℕ) (before : List Rule) (next : Option Lot) (parts : Parts) (f : InFlight b old mid count before next parts) where
+module _ (b : Bounds) (old mid : Option (List ℕ)) (count : ℕ) (before : List Rule) (next : Option Lot) (parts : Progress) (f : InFlight b old mid count before next parts) where
   -- want of memory
   pub stops_waiting : PutsRulesOf b (pairs_of b) ⊥ old mid (Err Memory)
   stops_waiting = stops_here b (pairs_of b) ⊥ f.done old mid count f.so_far
@@ -108,7 +108,7 @@ module _ (b : Bounds) (old mid : Option (List ℕ)) (count : ℕ) (before : List
           (counted_on count lines.count counted.number more added counted.counted) f.so_far counted.are (put ∙ ap (append_known mid) is)
 
       -- the next stage
-      pub next_stage : (part : Lot) (found : List Rule) (parts' : Parts) (next' : Option Lot) → next ≡ Some part → AreLotRules (lot_tree part) found → All (λ (r : Rule). IsLawful (pair_of r.pair)) found
+      pub next_stage : (part : Lot) (found : List Rule) (parts' : Progress) (next' : Option Lot) → next ≡ Some part → AreLotRules (lot_tree part) found → All (λ (r : Rule). IsLawful (pair_of r.pair)) found
           → parts'.bounds ≡ parts.bounds → Gives parts parts' next' → InFlight b old new more found next' parts'
       next_stage part found parts' next' at rules lawful same h = record {
         done = f.done + length f.found;
@@ -130,7 +130,7 @@ module _ (b : Bounds) (old mid : Option (List ℕ)) (count : ℕ) (before : List
           (put_now.lines, subst (λ l. AreCounted b.steps b.depth l put_now.lines more) all put_now.are, put_now.put)
 
 -- fewer pairs are ahead after a stage
-pub fewer_ahead : (part : Lot) (parts parts' : Parts) (next next' : Option Lot) → next ≡ Some part → 0 < length part.pairs → Gives parts parts' next' → length (ahead next' parts') < length (ahead next parts)
+pub fewer_ahead : (part : Lot) (parts parts' : Progress) (next next' : Option Lot) → next ≡ Some part → 0 < length part.pairs → Gives parts parts' next' → length (ahead next' parts') < length (ahead next parts)
 fewer_ahead part parts parts' next next' at some h =
     let a = ap length (given parts parts' next' h) in
     let b = ap (λ n. length (ahead n parts)) at in

@@ -3,16 +3,16 @@ use Rattle.std.specs.Prelude.{◌≡◌, ◌<◌, ◌≤◌, ◌++◌, List, [],
 use Rattle.std.specs.declared.option.Option.{Option}
 use Rattle.wt_pair.specs.declared.lot.Lot.{Lot}
 use Rattle.wt_pair.specs.Candidates.{pairs_of}
+use Rattle.wt_pair.specs.Walk.{Progress}
 use Rattle.wt_symbol.specs.Lawful.{IsLawful}
 use Rattle.wt_symbol.specs.Sides.{PairTree, pair_of}
-use Rattle.wt_sharing.specs.declared.parts.Parts.{Parts}
 
--- the pairs of the bounds that were not given yet: the rest of the lot at hand, and the lots behind it
-abbrev pub left : Parts → List PairTree
-left p = map pair_of p.rest.items ++ drop p.lots.first (pairs_of p.bounds)
+-- the pairs of the bounds that were not given yet
+abbrev pub left : Progress → List PairTree
+left p = drop p.first (pairs_of p.bounds)
 
 -- a part has the first of the pairs that were left, 512 at most and each lawful; the others are left behind it
-pub record IsNextPart (old new : Parts) (part : Lot) : Type 0 where
+pub record IsNextPart (old new : Progress) (part : Lot) : Type 0 where
   pub bounds : part.bounds ≡ old.bounds
   pub together : map pair_of part.pairs ++ left new ≡ left old
   pub lawful : All (λ p. IsLawful (pair_of p)) part.pairs
@@ -20,6 +20,6 @@ pub record IsNextPart (old new : Parts) (part : Lot) : Type 0 where
   pub few : length part.pairs ≤ 512
 
 -- the next part, or none where no pair is left
-abbrev pub Gives : Parts → Parts → Option Lot → Type 0
+abbrev pub Gives : Progress → Progress → Option Lot → Type 0
 Gives old new None = (left old ≡ []) × (left new ≡ [])
 Gives old new (Some part) = IsNextPart old new part

@@ -5,7 +5,7 @@ ghost use Rattle.wt_pair.specs.Candidates.{IsWithinLimits, pairs_of};
 ghost use Rattle.wt_discovery.specs.Discovering as spec;
 ghost use Rattle.wt_outcome.specs.Outcomes.{AppendsPrefix, Ends, Outcome};
 
-use crate::parts::Parts;
+use crate::parts::next_part;
 use crate::stage::run_stage;
 use std::alloc::Global;
 use std::sync::Wait;
@@ -13,7 +13,7 @@ use std::thread::Threads;
 use wt_form::Prover;
 use wt_io::{Gate, Sink};
 use wt_outcome::{Stop, put};
-use wt_pair::Bounds;
+use wt_pair::{Bounds, Pairs};
 use wt_rule::{Rules, write_end, write_head};
 use wt_workers::lines_of_rules;
 
@@ -34,11 +34,11 @@ fn put_parts<R: Threads + Wait + Sync, P: Prover + Sync, K: Sink, G: Gate + Sync
     ensures later { K.faults sink.old ≤ K.faults sink.new }
 {
     let mut count = 0u64;
-    let mut parts = Parts::new(alloc, *bounds);
-    let mut next = parts.next_part(alloc)?;
+    let mut pairs = Pairs::new(*bounds);
+    let mut next = next_part(&mut pairs, alloc)?;
     let mut before = Rules::new(alloc);
     'parts: while let Some(part) = next {
-        let stage = run_stage(rt, prover, alloc, &part, workers, gate, &before, &mut parts)?;
+        let stage = run_stage(rt, prover, alloc, &part, workers, gate, &before, &mut pairs)?;
         put(sink, stage.lines.text.as_slice())?;
         count = count.saturating_add(stage.lines.count);
         before = stage.found;

@@ -7,14 +7,14 @@ ghost use Rattle.wt_symbol.specs.Sides.{pair_of};
 ghost use Rattle.wt_sharing.specs.Parts.{Gives};
 ghost use Rattle.wt_sharing.specs.Stages.{AreLinesOf};
 
-use crate::parts::Parts;
+use crate::parts::next_part;
 use std::alloc::{AllocError, Global};
 use std::sync::Wait;
 use std::thread::{Threads, join_mut};
 use wt_discover::RuleLines;
 use wt_form::Prover;
 use wt_io::Gate;
-use wt_pair::Lot;
+use wt_pair::{Lot, Pairs};
 use wt_rule::Rules;
 use wt_workers::{discover_lot, lines_of_rules};
 
@@ -34,14 +34,14 @@ pub(crate) struct Stage {
 }
 
 /// Makes the lines of the rules that were found before, and the next part.
-fn make(alloc: Global, before: &Rules, parts: &mut Parts) -> Result<Made, AllocError>
+fn make(alloc: Global, before: &Rules, pairs: &mut Pairs) -> Result<Made, AllocError>
     requires lawful { All (λ r. IsLawful (pair_of r.pair)) before.now }
     ensures lines { IfOk result (λ made. AreLinesOf before.now made.lines) }
-    ensures next { IfOk result (λ made. Gives parts.old parts.new made.next) }
-    ensures bounds { parts.new.bounds ≡ parts.old.bounds }
+    ensures next { IfOk result (λ made. Gives pairs.old pairs.new made.next) }
+    ensures bounds { pairs.new.bounds ≡ pairs.old.bounds }
 {
     let lines = lines_of_rules(alloc, before.as_slice())?;
-    let next = parts.next_part(alloc)?;
+    let next = next_part(pairs, alloc)?;
     Ok(Made { lines, next })
 }
 
@@ -54,7 +54,7 @@ pub(crate) fn run_stage<R: Threads + Wait + Sync, P: Prover + Sync, G: Gate + Sy
     workers: u32,
     gate: &G,
     before: &Rules,
-    parts: &mut Parts,
+    pairs: &mut Pairs,
 ) -> Result<Stage, AllocError>
     requires part { All (λ p. IsLawful (pair_of p)) part.now.pairs }
     requires few { length part.now.pairs < 2 ^ 32 }
@@ -64,12 +64,12 @@ pub(crate) fn run_stage<R: Threads + Wait + Sync, P: Prover + Sync, G: Gate + Sy
     ensures lines { IfOk result (λ stage. AreLinesOf before.now stage.lines) }
     ensures found { IfOk result (λ stage. AreLotRules (lot_tree part.now) stage.found) }
     ensures lawful { IfOk result (λ stage. All (λ r. IsLawful (pair_of r.pair)) stage.found) }
-    ensures next { IfOk result (λ stage. Gives parts.old parts.new stage.next) }
-    ensures bounds { parts.new.bounds ≡ parts.old.bounds }
+    ensures next { IfOk result (λ stage. Gives pairs.old pairs.new stage.next) }
+    ensures bounds { pairs.new.bounds ≡ pairs.old.bounds }
 {
     let (made, report) = join_mut(
         rt,
-        &mut || make(alloc, before, parts),
+        &mut || make(alloc, before, pairs),
         &mut ||
             requires part { All (λ p. IsLawful (pair_of p)) part.now.pairs }
             requires few { length part.now.pairs < 2 ^ 32 }

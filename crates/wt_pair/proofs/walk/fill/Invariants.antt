@@ -6,7 +6,7 @@ use Rattle.wt_pair.proofs.walk.fill.Given as goal
 
 abbrev pub invariant-templates : goal.invariant-templates
 invariant-templates l = record {
-  room : length l.pairs ≤ 4096;
+  room : length l.pairs ≤ l.most;
   so_far : map pair_of l.pairs ++ rest_of_pairs l.bounds l.template l.spot.anchoring l.spot.dest
       ≡ map pair_of l.fn.pairs ++ rest_of_pairs l.bounds l.fn.from.template l.fn.from.spot.anchoring l.fn.from.spot.dest;
 }

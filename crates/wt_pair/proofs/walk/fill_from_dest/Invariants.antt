@@ -6,7 +6,7 @@ use Rattle.wt_pair.proofs.walk.fill_from_dest.Given as goal
 
 abbrev pub invariant-dests : goal.invariant-dests
 invariant-dests l = record {
-  room : length l.pairs ≤ 4096;
+  room : length l.pairs ≤ l.most;
   so_far : map pair_of l.pairs ++ rest_of_anchoring l.bounds (tree_of l.source.side) l.source.symbols l.k l.anchors
       ≡ map pair_of l.fn.pairs ++ rest_of_anchoring l.bounds (tree_of l.source.side) l.source.symbols l.from l.anchors;
 }

@@ -4,11 +4,11 @@ use Rattle.wt_symbol.specs.Sides.{tree_of, pair_of}
 use Rattle.wt_pair.proofs.WalkLemmas.{anchoring_next, anchoring_passed, anchorings_done, must_be_done}
 use Rattle.wt_pair.proofs.walk.fill_source.Goals as goal
 
-pub returns-then-len-eq-LOT : goal.returns-then-len-eq-LOT
-returns-then-len-eq-LOT c =
+pub returns-then-len-most : goal.returns-then-len-most
+returns-then-len-most c =
     let filled = c.in_ok-dest.ensures in
     record {
-      pairs = anchoring_next c.args.bounds.now (tree_of c.args.source.now.side) c.args.source.now.symbols c.anchorings.anchoring c.anchorings.dest c.in_ok-dest.dest _ _ _ (omega (arith, c.count_anchorings-count.ensures)) filled c.anchorings.invariant.so_far;
+      pairs = anchoring_next c.args.bounds.now (tree_of c.args.source.now.side) c.args.source.now.symbols c.anchorings.anchoring c.args.most c.anchorings.dest c.in_ok-dest.dest _ _ _ (omega (arith, c.count_anchorings-count.ensures)) filled c.anchorings.invariant.so_far;
       within = filled.within;
       full_or_done = inl (omega (arith, length-map c.fill_anchoring.new.pairs pair_of));
     }
@@ -16,13 +16,13 @@ returns-then-len-eq-LOT c =
 pub anchorings-preserved : goal.anchorings-preserved
 anchorings-preserved c =
     let filled = c.in_ok-dest.ensures in
-    let next = anchoring_next c.args.bounds.now (tree_of c.args.source.now.side) c.args.source.now.symbols c.anchorings.anchoring c.anchorings.dest c.in_ok-dest.dest _ _ _ (omega (arith, c.count_anchorings-count.ensures)) filled c.anchorings.invariant.so_far in
+    let next = anchoring_next c.args.bounds.now (tree_of c.args.source.now.side) c.args.source.now.symbols c.anchorings.anchoring c.args.most c.anchorings.dest c.in_ok-dest.dest _ _ _ (omega (arith, c.count_anchorings-count.ensures)) filled c.anchorings.invariant.so_far in
     let many : length (map pair_of c.fill_anchoring.new.pairs) ≡ c.len.result = omega (arith, length-map c.fill_anchoring.new.pairs pair_of) in
     record {
       room = omega (arith, length-map c.fill_anchoring.new.pairs pair_of, filled.within);
       so_far =
           anchoring_passed c.args.bounds.now (tree_of c.args.source.now.side) c.args.source.now.symbols c.anchorings.anchoring c.in_ok-dest.dest _ _ (omega (arith, c.count_anchorings-count.ensures))
-          (must_be_done 4096 (length (map pair_of c.fill_anchoring.new.pairs)) _ _ refl (λ full. c.if-len-eq-LOT.false (omega arith)) filled.full_or_done) next;
+          (must_be_done c.args.most (length (map pair_of c.fill_anchoring.new.pairs)) _ _ refl (λ full. c.if-len-most.false (omega arith)) filled.full_or_done) next;
     }
 
 pub returns : goal.returns

@@ -5,7 +5,7 @@ use Rattle.wt_pair.proofs.walk.fill_source.Given as goal
 
 abbrev pub invariant-anchorings : goal.invariant-anchorings
 invariant-anchorings l = record {
-  room : length l.pairs ≤ 4096;
+  room : length l.pairs ≤ l.most;
   so_far : map pair_of l.pairs ++ rest_of_source l.bounds (tree_of l.source.side) l.source.symbols l.anchoring l.dest
       ≡ map pair_of l.fn.pairs ++ rest_of_source l.bounds (tree_of l.source.side) l.source.symbols l.fn.from.anchoring l.fn.from.dest;
 }

@@ -7,4 +7,5 @@ mod once;
 mod rows;
 
 pub use every::steps;
+pub use once::is_among;
 pub use std::alloc::AllocError as WantOfMemory;

@@ -3,6 +3,7 @@
 
 mod every;
 mod inside;
+mod joins;
 mod once;
 mod rows;
 

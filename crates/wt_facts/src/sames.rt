@@ -113,7 +113,7 @@ fn own_classes(alloc: Global, symbols: usize) -> Result<Vec<u8>, AllocError>
     ensures size { IfOk result (λ classes. length classes.items ≡ symbols) }
     ensures own { IfOk result (λ classes. (i : ℕ) → i < symbols → slice_index_or classes.items i 0 ≡ i) }
 {
-    let mut classes = Vec::new(alloc);
+    let mut classes = Vec::with_capacity(alloc, symbols)?;
     for symbol in 0..symbols {
         classes.push(symbol as u8)?;
     }

@@ -2,7 +2,7 @@
 use Rattle.std.proofs.Common.{ℕ, zero, suc, ◌+◌, ◌-◌, ◌<◌, ◌≤◌, ◌≡◌, ◌⊎◌, Bool, true, false, not, List, [], ◌∷◌, ◌++◌, map, take, drop, get_or, length, refl, sym, ap, ◌∙◌, subst, inl, inr, arith, if◌then◌else◌}
 use Rattle.std.specs.List.{list_any}
 use Rattle.std.proofs.lemmas.Bool.{cases_order}
-use Rattle.std.proofs.lemmas.List.{take_all, append-nil, append_assoc}
+use Rattle.std.proofs.lemmas.List.{take_all, append-nil, append_assoc, drop-append-le, length-map}
 use Rattle.indexmap.specs.IndexSet.{insert_key}
 use Rattle.wt_bag.specs.Choices.{Has, At}
 use Rattle.wt_bag.proofs.HasLaws.{has_left, has_right, has_split, has_list_any}
@@ -70,6 +70,32 @@ inserted_old eq n ns ns' e a = e ∙ ap (λ b. if b then ns else ns ++ n ∷ [])
 
 pub inserted_new : (eq : ℕ → ℕ → Bool) (n : ℕ) (ns ns' : List ℕ) → ns' ≡ insert_key eq ns n → list_any (eq n) ns ≡ false → ns' ≡ ns ++ n ∷ []
 inserted_new eq n ns ns' e a = e ∙ ap (λ b. if b then ns else ns ++ n ∷ []) a
+
+-- forms behind the first few
+pub joined_behind : {X Y : Type 0} (f : X → Y) (n : ℕ) (xs ys zs : List X) → n ≤ length xs → zs ≡ xs ++ ys → drop n (map f zs) ≡ drop n (map f xs) ++ map f ys
+joined_behind f n xs ys zs l e = ap (drop n) (map_join f xs ys zs e) ∙ drop-append-le n (map f xs) (map f ys) (subst (λ k. n ≤ k) (sym (length-map xs f)) l)
+
+pub has_behind : {X : Type 0} (x : X) (n : ℕ) (xs : List X) → Has x (drop n xs) → Has x xs
+has_behind x zero xs h = h
+has_behind x (suc n) [] h = h
+has_behind x (suc n) (y ∷ xs) h = inr (has_behind x n xs h)
+
+pub has_first : {X Y : Type 0} (f : X → Y) (y : Y) (n : ℕ) (xs : List X) → Has y (map f (take n xs)) → Has y (map f xs)
+has_first f y zero xs h = absurd h
+has_first f y (suc n) [] h = absurd h
+has_first f y (suc n) (x ∷ xs) (inl e) = inl e
+has_first f y (suc n) (x ∷ xs) (inr h) = inr (has_first f y n xs h)
+
+nothing_behind : {X : Type 0} (n : ℕ) (xs : List X) → length xs ≤ n → drop n xs ≡ []
+nothing_behind zero [] l = refl
+nothing_behind zero (x ∷ xs) l = let bad : ⊥ = omega (arith, l) in absurd bad
+nothing_behind (suc n) [] l = refl
+nothing_behind (suc n) (x ∷ xs) l = nothing_behind n xs (omega (arith, l))
+
+-- few forms, one more of which has no number
+pub numbered_few : {X : Type 0} (f : X → Form) (T : Tables) (n : ℕ) (xs ys : List X) (ns : List ℕ) → length xs ≤ n → length ys ≤ n → Numbered T (drop n (map f xs)) ns → Numbered T (drop n (map f ys)) ns
+numbered_few f T n xs ys ns a b h =
+    subst (λ z. Numbered T z ns) (nothing_behind n (map f xs) (subst (λ k. k ≤ n) (sym (length-map xs f)) a) ∙ sym (nothing_behind n (map f ys) (subst (λ k. k ≤ n) (sym (length-map ys f)) b))) h
 
 -- how forms grow
 pub grown_none : (old : List Form) (P : Form → Type 0) → ((g : Form) → P g → Has g old) → Grown old old P

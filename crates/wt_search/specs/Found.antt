@@ -1,5 +1,5 @@
 -- Only private contracts cite this. Forms that are found, and how they grow.
-use Rattle.std.specs.Prelude.{ℕ, ◌≡◌, ◌⊎◌, ◌↔◌, ◌<◌, ◌≤◌, ◌^◌, ◌-◌, min, List, [], ◌∷◌, ◌++◌, map}
+use Rattle.std.specs.Prelude.{ℕ, ◌≡◌, ◌⊎◌, ◌↔◌, ◌<◌, ◌≤◌, ◌^◌, ◌-◌, min, List, [], ◌∷◌, ◌++◌, map, drop}
 use Rattle.indexmap.specs.IndexSet.{keys}
 use Rattle.wt_bag.specs.Choices.{Has, At}
 use Rattle.wt_form.specs.Trees.{Form}
@@ -31,8 +31,9 @@ Numbered T (f ∷ fs) [] = ⊥
 abbrev pub forms_of : Found → List Form
 forms_of found = map form_seen found.forms.items
 
+-- the forms behind the first few have their numbers
 abbrev pub IsNumbered : Found → Type 0
-IsNumbered found = Numbered (tables_of found.table) (forms_of found) (keys found.numbers)
+IsNumbered found = Numbered (tables_of found.table) (drop 8 (forms_of found)) (keys found.numbers)
 
 -- forms come behind the others: those with the property that were not there
 pub record Grown (old new : List Form) (P : Form → Type 0) : Type 0 where

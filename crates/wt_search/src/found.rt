@@ -12,9 +12,12 @@ use std::alloc::{AllocError, Global};
 use wt_facts::Facts;
 use wt_form::Form;
 use wt_form_table::FormTable;
-use wt_steps::steps;
+use wt_steps::{is_among, steps};
 
-/// Forms in the order in which they are found, with their numbers in a table.
+/// How many forms are looked through one by one. Most searches find no more, and have no table.
+const FEW: usize = 8;
+
+/// Forms in the order in which they are found. Those behind the first few have numbers in a table.
 #[derive(Drop)]
 pub struct Found {
     pub forms: Vec<Form>,
@@ -34,8 +37,17 @@ impl Found {
         }
     }
 
-    /// Adds a form where it is not there.
-    pub fn push(&mut self, alloc: Global, form: &Form) -> Result<(), AllocError>
+    /// The first few forms, which have no number.
+    fn first_few(&self) -> &[Form]
+        ensures { (g : FormTree) → Has g (map form_seen result.now) → Has g (forms_of self.now) }
+    {
+        let few = self.forms.len().min(FEW);
+        &self.forms[..few]
+    }
+
+    /// Adds a form behind the first few, where its number is not there.
+    fn push_numbered(&mut self, alloc: Global, form: &Form) -> Result<(), AllocError>
+        requires behind { 8 ≤ length self.old.forms.items }
         requires numbered { IsNumbered self.old }
         ensures numbered { OnOk result (IsNumbered self.new) }
         ensures grown { OnOk result (Grown (forms_of self.old) (forms_of self.new) (λ g. g ≡ form_seen form.now)) }
@@ -45,6 +57,23 @@ impl Found {
             let copy = form.copy(alloc)?;
             self.forms.push(copy)?;
         }
+        Ok(())
+    }
+
+    /// Adds a form where it is not there.
+    pub fn push(&mut self, alloc: Global, form: &Form) -> Result<(), AllocError>
+        requires numbered { IsNumbered self.old }
+        ensures numbered { OnOk result (IsNumbered self.new) }
+        ensures grown { OnOk result (Grown (forms_of self.old) (forms_of self.new) (λ g. g ≡ form_seen form.now)) }
+    {
+        if is_among(self.first_few(), form) {
+            return Ok(());
+        }
+        if self.forms.len() >= FEW {
+            return self.push_numbered(alloc, form);
+        }
+        let copy = form.copy(alloc)?;
+        self.forms.push(copy)?;
         Ok(())
     }
 

@@ -1,3 +1,4 @@
+pub mod JoinLaws
 pub mod PlaceSteps
 pub mod RowLaws
 pub mod OnceLaws

@@ -8,7 +8,7 @@ use std::alloc::AllocError;
 use wt_form::Form;
 
 /// Whether the form is one of these.
-fn is_among(forms: &[Form], form: &Form) -> bool
+pub fn is_among(forms: &[Form], form: &Form) -> bool
     ensures { IsTrue result ↔ Has (form_seen form.now) (map form_seen forms.now) }
 {
     for other in forms {

@@ -10,11 +10,11 @@ ghost use Rattle.wt_form.specs.Views.{terms_seen, ranges_seen, conds_seen};
 ghost use Rattle.wt_facts.specs.Facts.{known_of};
 ghost use Rattle.wt_two_terms.specs.Pairs.{TwoStep};
 
+use crate::joins::push_by_joins;
 use std::alloc::{AllocError, Global};
 use wt_drops::drops;
 use wt_facts::Facts;
 use wt_form::{Term, Terms};
-use wt_joining::{push_joins_to_in, push_merged, push_rewritten};
 use wt_open::push_opened;
 use wt_two_terms::push_pairs;
 
@@ -30,10 +30,8 @@ pub fn rows(
     ensures { IfOk result (λ out. (us : Sum) → (Has us (map terms_seen out.items) ↔ Row (known_of facts.now) nested (ranges_seen term.now.ranges) (conds_seen term.now.conds) term.now.pieces us)) }
 {
     let mut out = drops(alloc, facts, term)?;
-    push_joins_to_in(alloc, facts, nested, term, &mut out)?;
-    push_merged(alloc, facts, term, &mut out)?;
+    push_by_joins(alloc, facts, nested, term, &mut out)?;
     push_opened(alloc, facts, nested, term, &mut out)?;
-    push_rewritten(alloc, term, &mut out)?;
     Ok(out)
 }
 

@@ -4,5 +4,4 @@ use Rattle.wt_steps.proofs.RowLaws.{rows_are}
 use Rattle.wt_steps.proofs.rows.rows.Goals as goal
 
 pub returns : goal.returns
-returns c = rows_are (known_of c.args.facts.now) c.args.nested (term_seen c.args.term.now) _ _ _ _ _ c.in_ok-out.ensures.exact c.in_ok-push_joins_to_in.ensures c.in_ok-push_merged.ensures c.in_ok-push_opened.ensures
-    (c.in_ok-push_rewritten.ensures (known_of c.args.facts.now))
+returns c = rows_are (known_of c.args.facts.now) c.args.nested (term_seen c.args.term.now) _ _ _ c.in_ok-out.ensures.exact c.in_ok-push_by_joins.ensures c.in_ok-push_opened.ensures

@@ -1,4 +1,4 @@
 pub mod Files
 pub mod Rewriting
 pub mod Checking
-pub mod Waiting
+pub mod Making

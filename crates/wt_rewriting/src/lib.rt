@@ -2,10 +2,10 @@
 #![tactic(auto)]
 
 mod checking;
+mod making;
 mod names;
 mod putting;
 mod rewriting;
-mod waiting;
 
 pub use checking::check;
 pub use names::Names;

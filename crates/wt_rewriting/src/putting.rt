@@ -5,15 +5,12 @@ ghost use Rattle.wt_outcome.specs.Outcomes.{Runs};
 ghost use Rattle.wt_rewrite.specs.Books.{IsReady};
 ghost use Rattle.wt_rewriting.specs.Rewriting as spec;
 
-use crate::waiting::add_line;
+use crate::making::{Source, made_lines, reach};
 use std::alloc::{AllocError, Global};
+use std::thread::Threads;
 use wt_io::Sink;
-use wt_lines::statement_line;
 use wt_outcome::{Stop, put};
-use wt_parse::Queries;
 use wt_plan_facts::Facts;
-use wt_rewrite::Book;
-use wt_schema::Schema;
 
 fn fault_text(alloc: Global, name: &str, at: u32, kind: &str) -> Result<String, AllocError>
     ensures { IfOk result (λ text. string_bytes text ≡ (spec.fault_at name.now at kind.now).text) }
@@ -67,27 +64,30 @@ pub fn put_line_fault<K: Sink>(
     Ok(2)
 }
 
-// A line for each statement; a write takes some 64 KiB of them. It answers whether one of them was refused.
-pub(crate) fn put_lines<F: Facts, K: Sink>(
+// So many bytes of statements are rewritten before their lines are put.
+const PIECE: u32 = 131_072;
+
+// A line for each statement; a write takes the lines of some 128 KiB of statements. It answers whether one of them was refused.
+pub(crate) fn put_lines<R: Threads + Sync, F: Facts + Sync, K: Sink>(
+    rt: &R,
     alloc: Global,
-    schema: &Schema,
-    facts: &F,
-    book: &Book,
-    queries: &Queries,
+    source: &Source<'_, F>,
     sink: &mut K,
 ) -> Result<bool, Stop>
-    requires same { F.tables facts.now ≡ schema.now.tables }
-    requires ready { IsReady book.now }
-    requires few { length queries.now.statements ≤ 16777216 }
-    ensures { spec.PutsLines schema.now.tables book.now.rules queries.now (Rose (K.faults sink.old) (K.faults sink.new)) (K.written sink.old) (K.written sink.new) result }
+    requires ready { IsReady source.now.book.now }
+    requires few { length source.now.queries.now.statements ≤ 16777216 }
+    ensures { spec.PutsLines source.now.schema.now.tables source.now.book.now.rules source.now.queries.now (Rose (K.faults sink.old) (K.faults sink.new)) (K.written sink.old) (K.written sink.new) result }
 {
+    let queries = source.queries;
+    let count = queries.count();
     let mut refused = false;
-    let mut waiting = Vec::new(alloc);
-    'statements: for n in 0..queries.count() {
-        let line = statement_line(alloc, schema, facts, book, queries, n)?;
-        add_line(&mut waiting, line.text.as_slice(), sink)?;
-        refused |= line.refused;
+    let mut n = 0;
+    'pieces: while n < count {
+        let end = reach(queries, n, count, PIECE);
+        let made = made_lines(rt, alloc, source, n, end)?;
+        put(sink, made.text.as_slice())?;
+        refused |= made.refused;
+        n = end;
     }
-    put(sink, waiting.as_slice())?;
     Ok(refused)
 }

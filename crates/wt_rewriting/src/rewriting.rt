@@ -7,9 +7,11 @@ ghost use Rattle.wt_rewrite.specs.Books.{IsReady};
 ghost use Rattle.wt_rewriting.specs.Files.{AreInputs, WithInputs, named, names_of};
 ghost use Rattle.wt_rewriting.specs.Rewriting as spec;
 
+use crate::making::Source;
 use crate::names::Names;
 use crate::putting::{put_fault, put_line_fault, put_lines, put_too_long};
 use std::alloc::Global;
+use std::thread::Threads;
 use wt_ddl::{DdlError, read_schema};
 use wt_fault_names::{lexical_name, schema_name};
 use wt_io::{Sink, Store};
@@ -29,7 +31,8 @@ fn status_of(refused: bool) -> u8
 }
 
 // The lines of the statements, and the status.
-fn put_file<K: Sink>(
+fn put_file<R: Threads + Sync, K: Sink>(
+    rt: &R,
     alloc: Global,
     schema: &Schema,
     book: &Book,
@@ -42,12 +45,19 @@ fn put_file<K: Sink>(
         ⊥ (Rose (K.faults sink.old) (K.faults sink.new)) (K.written sink.old) (K.written sink.new) result }
 {
     let known = Known::new(schema);
-    let refused = put_lines(alloc, schema, &known, book, queries, sink)?;
+    let source = Source {
+        schema,
+        facts: &known,
+        book,
+        queries,
+    };
+    let refused = put_lines(rt, alloc, &source, sink)?;
     Ok(status_of(refused))
 }
 
 // The statements over a schema that was read.
-fn put_queries<K: Sink>(
+fn put_queries<R: Threads + Sync, K: Sink>(
+    rt: &R,
     alloc: Global,
     names: &Names<'_>,
     schema: &Schema,
@@ -63,7 +73,7 @@ fn put_queries<K: Sink>(
         return put_too_long(alloc, names.queries, sink);
     };
     match read_queries(alloc, bytes.as_slice()) {
-        Ok(queries) => put_file(alloc, schema, book, &queries, sink),
+        Ok(queries) => put_file(rt, alloc, schema, book, &queries, sink),
         Err(LexError::Fault(fault, at)) => put_fault(
             alloc,
             names.queries,
@@ -76,7 +86,8 @@ fn put_queries<K: Sink>(
 }
 
 // The schema and the statements.
-fn put_schema<K: Sink>(
+fn put_schema<R: Threads + Sync, K: Sink>(
+    rt: &R,
     alloc: Global,
     names: &Names<'_>,
     book: &Book,
@@ -92,7 +103,7 @@ fn put_schema<K: Sink>(
         return put_too_long(alloc, names.schema, sink);
     };
     match read_schema(alloc, bytes.as_slice()) {
-        Ok(schema) => put_queries(alloc, names, &schema, book, queries, sink),
+        Ok(schema) => put_queries(rt, alloc, names, &schema, book, queries, sink),
         Err(DdlError::Fault(fault, at)) => put_fault(
             alloc,
             names.schema,
@@ -120,7 +131,8 @@ struct Files {
 }
 
 // The schema and the statements, with rules that were read.
-fn put_book<K: Sink>(
+fn put_book<R: Threads + Sync, K: Sink>(
+    rt: &R,
     alloc: Global,
     names: &Names<'_>,
     book: RuleBook,
@@ -133,11 +145,12 @@ fn put_book<K: Sink>(
         ⊥ (Rose (K.faults sink.old) (K.faults sink.new)) (K.written sink.old) (K.written sink.new) result }
 {
     let book = Book::new(alloc, book.rules)?;
-    put_schema(alloc, names, &book, &files.schema, &files.queries, sink)
+    put_schema(rt, alloc, names, &book, &files.schema, &files.queries, sink)
 }
 
 // What the three files give: the fault of the first that is refused, or a line for each statement.
-fn answer<K: Sink>(
+fn answer<R: Threads + Sync, K: Sink>(
+    rt: &R,
     alloc: Global,
     names: &Names<'_>,
     files: &Files,
@@ -150,7 +163,7 @@ fn answer<K: Sink>(
         return put_line_fault(alloc, names.rules, 1, "TooLong", sink);
     };
     match read_rules(alloc, bytes.as_slice()) {
-        Ok(book) => put_book(alloc, names, book, files, sink),
+        Ok(book) => put_book(rt, alloc, names, book, files, sink),
         Err(RuleError::Fault(fault, line)) => put_line_fault(
             alloc,
             names.rules,
@@ -177,7 +190,8 @@ fn read_files<S: Store>(alloc: Global, names: &Names<'_>, store: &mut S) -> Resu
     })
 }
 
-fn try_rewrite<S: Store, K: Sink>(
+fn try_rewrite<R: Threads + Sync, S: Store, K: Sink>(
+    rt: &R,
     alloc: Global,
     names: &Names<'_>,
     store: &mut S,
@@ -188,11 +202,12 @@ fn try_rewrite<S: Store, K: Sink>(
         (Rose (K.faults sink.old) (K.faults sink.new)) (K.written sink.old) (K.written sink.new) result) }
 {
     let files = read_files(alloc, names, store)?;
-    answer(alloc, names, &files, sink)
+    answer(rt, alloc, names, &files, sink)
 }
 
 /// `rewrite` over the files of these names: see `rewrite`.
-pub fn rewrite_files<S: Store, K: Sink>(
+pub fn rewrite_files<R: Threads + Sync, S: Store, K: Sink>(
+    rt: &R,
     alloc: Global,
     names: &Names<'_>,
     store: &mut S,
@@ -202,7 +217,7 @@ pub fn rewrite_files<S: Store, K: Sink>(
         × Ends (Rose (S.faults store.old) (S.faults store.new)) (Rose (K.faults sink.old) (K.faults sink.new))
         (K.written sink.old) (K.written sink.new) o result) }
 {
-    match try_rewrite(alloc, names, store, sink) {
+    match try_rewrite(rt, alloc, names, store, sink) {
         Ok(status) => status,
         Err(stop) => stop.status(),
     }
@@ -212,7 +227,8 @@ pub fn rewrite_files<S: Store, K: Sink>(
 /// ends with the status of the command.
 ///
 /// It reads the three files in this order, and writes a line for each statement: the rewritten query, or why it is refused.
-pub fn rewrite<S: Store, K: Sink>(
+pub fn rewrite<R: Threads + Sync, S: Store, K: Sink>(
+    rt: &R,
     alloc: Global,
     rules: &str,
     schema: &str,
@@ -247,5 +263,5 @@ pub fn rewrite<S: Store, K: Sink>(
         schema,
         queries,
     };
-    rewrite_files(alloc, &names, store, sink)
+    rewrite_files(rt, alloc, &names, store, sink)
 }

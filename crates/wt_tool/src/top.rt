@@ -96,7 +96,7 @@ fn run<R: Threads + Wait + Sync, S: Store, K: Sink, G: Gate + Sync>(
                 schema,
                 queries,
             };
-            rewrite_files(alloc, &names, store, sink)
+            rewrite_files(rt, alloc, &names, store, sink)
         }
         Ok(Command::Check { rules }) => check(alloc, rules, store, sink),
         Ok(Command::Demo { first, count }) => demo(alloc, first, count, sink),

@@ -12,7 +12,7 @@ returns-in_default g c =
     (rules_too_long (names_of c.args.names.now) c.args.files.now.rules c.args.files.now.schema c.args.files.now.queries c.in_default.is) c.put_line_fault.ensures
 
 pub put_book-requires : goal.put_book-requires
-put_book-requires g c = record { lawful = c.in-Ok.ensures.lawful; few = c.in-Ok.ensures.few }
+put_book-requires g c = (c.type_bounds.sync-R, (c.in-Ok.ensures.lawful, c.in-Ok.ensures.few))
 
 pub returns-in-Ok : goal.returns-in-Ok
 returns-in-Ok g c =

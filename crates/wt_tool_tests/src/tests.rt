@@ -107,7 +107,7 @@ fn answers<R: Threads + Wait + Sync + Abort + AllocGlobal>(
     rt: &R,
     case: &Case<'_>,
 ) -> Result<bool, Fail> {
-    let mut sink = MemSink::new(rt.alloc(), 131_072, calls(rt.alloc(), case.failing_write)?)?;
+    let mut sink = MemSink::new(rt.alloc(), 262_144, calls(rt.alloc(), case.failing_write)?)?;
     let status = run(rt, case, &mut sink)?;
     Ok(status == case.status && sink.as_bytes() == case.written)
 }
@@ -451,8 +451,8 @@ fn leaves_lines<R: Threads + Wait + Sync + Abort + AllocGlobal>(
 
 #[test]
 fn whole_lines_are_put_at_once(rt: HostRuntime) -> Result<(), Fail> {
-    // Of 42 bytes each: the first write takes as many as are 65,536 bytes or more.
-    assert!(rt; leaves_lines(&rt, 3200, 1561)?);
+    // The first write takes the lines of those statements, of 23 bytes each, that begin in the first 131,072 bytes.
+    assert!(rt; leaves_lines(&rt, 6400, 5699)?);
     Ok(())
 }
 

@@ -1,5 +1,5 @@
 //! The lawful pairs of given bounds, in lots.
-ghost use Rattle.std.specs.Prelude.{IfSome};
+ghost use Rattle.std.specs.Prelude.{◌<◌, IfSome};
 ghost use Rattle.wt_pair.specs.Candidates.{IsWithinLimits};
 
 use std::alloc::{AllocError, Global};
@@ -52,6 +52,37 @@ fn all_pairs_are_counted(rt: HostRuntime) -> Result<(), Fail> {
             (count, lots),
             "{src} {dst} {ops}"
         );
+    }
+    Ok(())
+}
+
+/// How many pairs and how many lists of pairs there are where so many are asked for at once; none where the bounds are past the limits.
+fn counted_by(alloc: Global, most: usize) -> Result<(u64, u64), AllocError>
+    requires { 0 < most }
+{
+    let Some(bounds) = bounds(1, 1, 0b11_1111) else {
+        return Ok((0, 0));
+    };
+    let mut pairs = Pairs::new(bounds);
+    let mut count = 0;
+    for lists in 0..100 {
+        match pairs.next_pairs(alloc, most)? {
+            Some(lot) => {
+                if lot.first != count {
+                    return Ok((0, 0));
+                }
+                count = lot.first.saturating_add(lot.pairs.len() as u64);
+            }
+            None => return Ok((count, lists)),
+        }
+    }
+    Ok((0, 0))
+}
+
+#[test]
+fn pairs_are_given_as_many_as_are_asked_for(rt: HostRuntime) -> Result<(), Fail> {
+    for (most, lists) in [(1, 20), (7, 3), (10, 2), (20, 1), (21, 1)] {
+        assert_eq!(rt; counted_by(rt.alloc(), most)?, (20, lists), "{most}");
     }
     Ok(())
 }
